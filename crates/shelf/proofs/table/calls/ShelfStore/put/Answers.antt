@@ -1,0 +1,20 @@
+use Rattle.shelf.specs.Table.{shelf-meaning}
+use mathlib.Core.Path.{refl, sym, _∙_}
+use lib.Dec.{ltb}
+use Rattle.store.specs.Model.{Chain, one-put}
+use Rattle.shelf.proofs.Rows.{granted-is, after-is}
+use Rattle.shelf.proofs.table.calls.ShelfStore.put.Needs as need
+
+pub returns-in-Some : need.returns-in-Some
+unfolding shelf-meaning
+returns-in-Some c =
+    let v = c .args .self .now .chains in
+    let at = sym (c .chain-index .ensures) ∙ c .in-Some .is in
+    let long = sym (v .ok .0) ∙ c .args .self .now .whole in
+    let x = c .index-mut .result .now in
+    let read = c .index-mut .ensures .value in
+    record {
+      answer = c .put .ensures .answer ∙ granted-is (v .items) (c .args .node) (c .args .key) (c .in-Some .i) x at long read (λ h. ltb 0 (h .aside));
+      after = after-is (v .items) (c .args .node) (c .args .key) (c .in-Some .i) x at long read (λ h. ltb 0 (h .aside)) (one-put (c .args .version)) (c .put .last .self) (c .put .ensures .after);
+      rule = refl;
+    }
