@@ -28,6 +28,9 @@ first-chain = record { versions = first-version ∷ []; aside = 0 }
 abbrev pub stored : Chain → ℕ
 stored c = length (c .versions) - 1
 
+abbrev pub set-aside : Chain → ℕ
+set-aside c = c .aside
+
 -- A new store: each chain holds the first version alone, and nothing is set aside.
 abbrev pub fresh : Meaning
 fresh = λ n k. first-chain

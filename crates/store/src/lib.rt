@@ -1,6 +1,7 @@
 // Version stores: what a store means, the trait that every store meets, and code over any of them.
 ghost use mathlib.Core.Path.{_≡_};
-ghost use Prim.Native.Nat.{ℕ, _<_, _^_};
+ghost use mathlib.Core.Bool.{cond};
+ghost use Prim.Native.Nat.{ℕ, _+_, _<_, _^_};
 ghost use lib.ListN.{length};
 ghost use Rattle.std.specs.Vec.{made};
 ghost use Rattle.std.specs.Results.{isOk};
@@ -48,7 +49,7 @@ pub trait VersionStore: Sized + Drop {
 
     // An empty store. All memory is taken here.
     fn new(heap: Global) -> Result<Self, AllocError>
-        ensures { λ r. ⌜ made r (λ s. meaning s ≡ fresh) ⌝ };
+        ensures value { λ r. ⌜ made r (λ s. meaning s ≡ fresh) ⌝ };
 
     // The newest version of a key at a node, as value and writer.
     fn newest(&self, node: u8, key: u8) -> Option<(u64, TransactionNumber)>
@@ -62,17 +63,20 @@ pub trait VersionStore: Sized + Drop {
     fn set_aside(&mut self, node: u8, key: u8) -> Result<(), StoreRefusal>
         ensures answer { λ r. ⌜ isOk r ≡ aside-granted (free (now (self .entry))) (meaning (now (self .entry))) node key ⌝ }
         ensures after { λ r. ⌜ meaning (now (self .exit)) ≡ aside-after (free (now (self .entry))) (meaning (now (self .entry))) node key ⌝ }
-        ensures rule { λ r. ⌜ free (now (self .exit)) ≡ free (now (self .entry)) ⌝ };
+        ensures rule { λ r. ⌜ free (now (self .exit)) ≡ free (now (self .entry)) ⌝ }
+        ensures room { λ r. ⌜ free (now (self .exit)) (meaning (now (self .exit))) node key + cond (isOk r) 1 0 ≡ free (now (self .entry)) (meaning (now (self .entry))) node key ⌝ };
 
     // Gives one place back that was set aside for the key at the node.
     fn give_back(&mut self, node: u8, key: u8) -> Result<(), StoreRefusal>
         ensures answer { λ r. ⌜ isOk r ≡ aside-there (meaning (now (self .entry))) node key ⌝ }
         ensures after { λ r. ⌜ meaning (now (self .exit)) ≡ back-after (meaning (now (self .entry))) node key ⌝ }
-        ensures rule { λ r. ⌜ free (now (self .exit)) ≡ free (now (self .entry)) ⌝ };
+        ensures rule { λ r. ⌜ free (now (self .exit)) ≡ free (now (self .entry)) ⌝ }
+        ensures room { λ r. ⌜ free (now (self .exit)) (meaning (now (self .exit))) node key ≡ free (now (self .entry)) (meaning (now (self .entry))) node key + cond (isOk r) 1 0 ⌝ };
 
     // Turns one place set aside into the newest version.
     fn put(&mut self, node: u8, key: u8, version: Version) -> Result<(), StoreRefusal>
         ensures answer { λ r. ⌜ isOk r ≡ aside-there (meaning (now (self .entry))) node key ⌝ }
         ensures after { λ r. ⌜ meaning (now (self .exit)) ≡ put-after (meaning (now (self .entry))) node key version ⌝ }
-        ensures rule { λ r. ⌜ free (now (self .exit)) ≡ free (now (self .entry)) ⌝ };
+        ensures rule { λ r. ⌜ free (now (self .exit)) ≡ free (now (self .entry)) ⌝ }
+        ensures room { λ r. ⌜ free (now (self .exit)) (meaning (now (self .exit))) node key ≡ free (now (self .entry)) (meaning (now (self .entry))) node key ⌝ };
 }

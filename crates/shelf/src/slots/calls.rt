@@ -1,6 +1,7 @@
 // What can be done with one chain.
 ghost use mathlib.Core.Path.{_≡_};
 ghost use mathlib.Core.Bool.{cond};
+ghost use Prim.Native.Nat.{_+_};
 ghost use lib.Dec.{ltb};
 ghost use Rattle.std.specs.Results.{isOk};
 ghost use Rattle.store.specs.Model.{nth-of, first-chain, one-aside, one-back, one-put};
@@ -43,6 +44,7 @@ impl Slots {
     pub fn set_aside(&mut self) -> Result<(), StoreRefusal>
         ensures answer { λ r. ⌜ isOk r ≡ ltb 0 (places-left 4 (chain-of (now (self .entry)))) ⌝ }
         ensures after { λ r. ⌜ chain-of (now (self .exit)) ≡ cond (ltb 0 (places-left 4 (chain-of (now (self .entry))))) (one-aside (chain-of (now (self .entry)))) (chain-of (now (self .entry))) ⌝ }
+        ensures room { λ r. ⌜ places-left 4 (chain-of (now (self .exit))) + cond (isOk r) 1 0 ≡ places-left 4 (chain-of (now (self .entry))) ⌝ }
     {
         if self.stored + self.aside == PLACES {
             return Err(StoreRefusal);
@@ -54,6 +56,7 @@ impl Slots {
     pub fn give_back(&mut self) -> Result<(), StoreRefusal>
         ensures answer { λ r. ⌜ isOk r ≡ ltb 0 (chain-of (now (self .entry)) .aside) ⌝ }
         ensures after { λ r. ⌜ chain-of (now (self .exit)) ≡ cond (ltb 0 (chain-of (now (self .entry)) .aside)) (one-back (chain-of (now (self .entry)))) (chain-of (now (self .entry))) ⌝ }
+        ensures room { λ r. ⌜ places-left 4 (chain-of (now (self .exit))) ≡ places-left 4 (chain-of (now (self .entry))) + cond (isOk r) 1 0 ⌝ }
     {
         if self.aside == 0 {
             return Err(StoreRefusal);
@@ -65,6 +68,7 @@ impl Slots {
     pub fn put(&mut self, version: Version) -> Result<(), StoreRefusal>
         ensures answer { λ r. ⌜ isOk r ≡ ltb 0 (chain-of (now (self .entry)) .aside) ⌝ }
         ensures after { λ r. ⌜ chain-of (now (self .exit)) ≡ cond (ltb 0 (chain-of (now (self .entry)) .aside)) (one-put version (chain-of (now (self .entry)))) (chain-of (now (self .entry))) ⌝ }
+        ensures room { λ r. ⌜ places-left 4 (chain-of (now (self .exit))) ≡ places-left 4 (chain-of (now (self .entry))) ⌝ }
     {
         if self.aside == 0 {
             return Err(StoreRefusal);

@@ -1,8 +1,11 @@
 use Rattle.shelf.specs.Table.{shelf-meaning}
-use mathlib.Core.Path.{refl, sym, _∙_}
+use mathlib.Core.Path.{refl, sym, _∙_, ap}
+use mathlib.Core.Bool.{cond}
+use Prim.Native.Nat.{_+_}
+use Rattle.std.specs.Results.{isOk}
 use lib.Dec.{ltb}
 use Rattle.store.specs.Model.{Chain, one-back}
-use Rattle.shelf.proofs.Rows.{granted-is, after-is}
+use Rattle.shelf.proofs.Rows.{granted-is, after-is, left-before, left-after}
 use Rattle.shelf.proofs.table.calls.ShelfStore.give_back.Needs as need
 
 pub returns-in-Some : need.returns-in-Some
@@ -13,8 +16,11 @@ returns-in-Some c =
     let long = sym (v .ok .0) ∙ c .args .self .now .whole in
     let x = c .index-mut .result .now in
     let read = c .index-mut .ensures .value in
+    let before = left-before (v .items) (c .args .node) (c .args .key) (c .in-Some .i) x at long read in
+    let after = left-after (v .items) (c .args .node) (c .args .key) (c .in-Some .i) x at long read in
     record {
       answer = c .give-back .ensures .answer ∙ granted-is (v .items) (c .args .node) (c .args .key) (c .in-Some .i) x at long read (λ h. ltb 0 (h .aside));
       after = after-is (v .items) (c .args .node) (c .args .key) (c .in-Some .i) x at long read (λ h. ltb 0 (h .aside)) one-back (c .give-back .last .self) (c .give-back .ensures .after);
       rule = refl;
+      room = after (c .give-back .last .self) ∙ c .give-back .ensures .room ∙ ap (λ x. x + cond (isOk (c .give-back .result)) 1 0) (sym before);
     }

@@ -5,4 +5,4 @@ use Rattle.shelf.proofs.table.calls.ShelfStore.new.Needs as need
 pub returns : need.returns
 unfolding shelf-meaning
 returns c =
-    made-fresh (c .resize .last .self .items) (c .new-chains .result .items) (c .new-chains .result .len) (c .new .result) (c .new-chains .ensures .items) (c .new-chains .ensures .len) (c .in-Continue-resize .ensures tt .items) (c .new .ensures)
+    record { value = made-fresh (c .resize .last .self .items) (c .new-chains .result .items) (c .new-chains .result .len) (c .new .result) (c .new-chains .ensures .items) (c .new-chains .ensures .len) (c .in-Continue-resize .ensures tt .items) (c .new .ensures) }

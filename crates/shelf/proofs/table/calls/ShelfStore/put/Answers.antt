@@ -2,7 +2,7 @@ use Rattle.shelf.specs.Table.{shelf-meaning}
 use mathlib.Core.Path.{refl, sym, _∙_}
 use lib.Dec.{ltb}
 use Rattle.store.specs.Model.{Chain, one-put}
-use Rattle.shelf.proofs.Rows.{granted-is, after-is}
+use Rattle.shelf.proofs.Rows.{granted-is, after-is, left-before, left-after}
 use Rattle.shelf.proofs.table.calls.ShelfStore.put.Needs as need
 
 pub returns-in-Some : need.returns-in-Some
@@ -13,8 +13,11 @@ returns-in-Some c =
     let long = sym (v .ok .0) ∙ c .args .self .now .whole in
     let x = c .index-mut .result .now in
     let read = c .index-mut .ensures .value in
+    let before = left-before (v .items) (c .args .node) (c .args .key) (c .in-Some .i) x at long read in
+    let after = left-after (v .items) (c .args .node) (c .args .key) (c .in-Some .i) x at long read in
     record {
       answer = c .put .ensures .answer ∙ granted-is (v .items) (c .args .node) (c .args .key) (c .in-Some .i) x at long read (λ h. ltb 0 (h .aside));
       after = after-is (v .items) (c .args .node) (c .args .key) (c .in-Some .i) x at long read (λ h. ltb 0 (h .aside)) (one-put (c .args .version)) (c .put .last .self) (c .put .ensures .after);
       rule = refl;
+      room = after (c .put .last .self) ∙ c .put .ensures .room ∙ sym before;
     }

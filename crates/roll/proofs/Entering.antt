@@ -1,0 +1,81 @@
+-- What a write to the roll does to its meaning.
+use mathlib.Core.Path.{_≡_, refl, sym, _∙_, ap, fun-ext}
+use mathlib.Core.Bool.{Bool, true, false, cond, _&&_}
+use mathlib.Core.List.{List, [], _∷_, _++_}
+use Prim.Native.Nat.{ℕ, _+_, _-_, _*_, _<_, _≤_}
+use native.Mathlib.Omega.{arith}
+use lib.Dec.{eqb, ltb}
+use lib.ListN.{length, getD, set, replicate}
+use Rattle.std.proofs.shelf.Lists.{getD-set-same, getD-set-other, getD-replicate}
+use Rattle.std.proofs.shelf.Sums.{folded-push}
+use Rattle.std.proofs.shelf.Ways.{tells}
+use Rattle.std.specs.Iters.{folded}
+use Rattle.store.specs.declared.Version.{Version}
+use Rattle.store.specs.Model.{Chain, Meaning, in-range, with-chain, first-version, fresh}
+use Rattle.roll.specs.Entries.{entered, versions-of, with-entry, aside-at}
+use Rattle.roll.specs.declared.entry.Entry.{Entry}
+
+abbrev pub chain : List Version → ℕ → Chain
+chain vs a = record { versions = vs; aside = a }
+
+aside-set-at : (ps : List ℕ) (node key a : ℕ) → node < 8 → key < 64 → length ps ≡ 512 → (n k : ℕ) → aside-at (set ps (node * 64 + key) a) n k ≡ cond (eqb n node && eqb k key) a (aside-at ps n k)
+aside-set-at ps node key a hn hk long n k =
+    let same = getD-set-same ps (node * 64 + key) a 0 (omega arith) in
+    let other = getD-set-other ps (node * 64 + key) (n * 64 + k) a 0 in
+    grind (arith, tells, same, other)
+
+both : (b : Bool) (vs ws : List Version) (a d : ℕ) → chain (cond b ws vs) (cond b a d) ≡ cond b (chain ws a) (chain vs d)
+both true vs ws a d = refl
+both false vs ws a d = refl
+
+-- The versions of one chain, and the places set aside for it, are written together.
+write-at : (vs ws : ℕ → ℕ → List Version) (xs : List Version) (ps : List ℕ) (node key a : ℕ) → node < 8 → key < 64 → length ps ≡ 512
+    → ((n k : ℕ) → ws n k ≡ cond (eqb n node && eqb k key) xs (vs n k)) → (n k : ℕ)
+    → chain (ws n k) (aside-at (set ps (node * 64 + key) a) n k) ≡ with-chain (λ i j. chain (vs i j) (aside-at ps i j)) node key (chain xs a) n k
+write-at vs ws xs ps node key a hn hk long is n k =
+    let b = eqb n node && eqb k key in
+    ap (λ v. chain v (aside-at (set ps (node * 64 + key) a) n k)) (is n k)
+    ∙ ap (chain (cond b xs (vs n k))) (aside-set-at ps node key a hn hk long n k)
+    ∙ both b (vs n k) xs a (aside-at ps n k)
+
+same-versions : (es : List Entry) (node key n k : ℕ) → versions-of n k es ≡ cond (eqb n node && eqb k key) (versions-of node key es) (versions-of n k es)
+same-versions es node key n k = grind (arith, tells)
+
+pub aside-set : (es : List Entry) (ps : List ℕ) (node key a : ℕ) → node < 8 → key < 64 → length ps ≡ 512 → entered es (set ps (node * 64 + key) a) ≡ with-chain (entered es ps) node key (chain (versions-of node key es) a)
+unfolding entered
+aside-set es ps node key a hn hk long =
+    fun-ext (λ n. fun-ext (λ k. write-at (λ i j. versions-of i j es) (λ i j. versions-of i j es) (versions-of node key es) ps node key a hn hk long (same-versions es node key) n k))
+
+one-more : (es : List Entry) (e : Entry) (n k : ℕ) → versions-of n k (es ++ e ∷ []) ≡ cond (eqb n (e .node) && eqb k (e .key)) (e .version ∷ versions-of (e .node) (e .key) es) (versions-of n k es)
+one-more es e n k =
+    let pushed = folded-push (with-entry n k) (first-version ∷ []) es e in
+    grind (arith, tells, pushed)
+
+pub put-set : (es : List Entry) (ps : List ℕ) (e : Entry) (a : ℕ) → e .node < 8 → e .key < 64 → length ps ≡ 512 → entered (es ++ e ∷ []) (set ps (e .node * 64 + e .key) a) ≡ with-chain (entered es ps) (e .node) (e .key) (chain (e .version ∷ versions-of (e .node) (e .key) es) a)
+unfolding entered
+put-set es ps e a hn hk long =
+    fun-ext (λ n. fun-ext (λ k. write-at (λ i j. versions-of i j es) (λ i j. versions-of i j (es ++ e ∷ [])) (e .version ∷ versions-of (e .node) (e .key) es) ps (e .node) (e .key) a hn hk long (one-more es e) n k))
+
+none-at : (n k : ℕ) → aside-at (replicate 512 0) n k ≡ 0
+none-at n k =
+    let there = getD-replicate {A = ℕ} 512 (n * 64 + k) 0 0 in
+    grind (arith, tells, there)
+
+pub entered-fresh : entered [] (replicate 512 0) ≡ fresh
+unfolding entered
+entered-fresh = fun-ext (λ n. fun-ext (λ k. ap (chain (first-version ∷ [])) (none-at n k)))
+
+-- A chain holds the first version, and at most as many others as there are entries.
+longer : (b : Bool) (v : Version) (vs : List Version) (x : ℕ) → 0 < length vs → length vs ≤ x → (0 < length (cond b (v ∷ vs) vs)) × (length (cond b (v ∷ vs) vs) ≤ x + 1)
+longer true v vs x h l = (omega arith, omega arith)
+longer false v vs x h l = (h, omega arith)
+
+filled : (n k : ℕ) (es : List Entry) (vs : List Version) (x : ℕ) → 0 < length vs → length vs ≤ x → (0 < length (folded (with-entry n k) vs es)) × (length (folded (with-entry n k) vs es) ≤ x + length es)
+filled n k [] vs x h l = (h, omega arith)
+filled n k (e ∷ es) vs x h l =
+    let one = longer (eqb n (e .node) && eqb k (e .key)) (e .version) vs x h l in
+    let rest = filled n k es (with-entry n k vs e) (x + 1) (one .0) (one .1) in
+    (rest .0, omega arith)
+
+pub versions-length : (n k : ℕ) (es : List Entry) → (0 < length (versions-of n k es)) × (length (versions-of n k es) ≤ 1 + length es)
+versions-length n k es = filled n k es (first-version ∷ []) 1 (omega arith) (omega arith)

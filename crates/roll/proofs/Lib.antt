@@ -1,0 +1,4 @@
+pub mod Sums
+pub mod Entering
+pub mod Moves
+pub mod Walk
