@@ -1,3 +1,4 @@
 pub mod Model
 pub mod Index
 pub mod Batch
+pub mod Runs

@@ -7,6 +7,7 @@ ghost use Rattle.std.specs.Vec.{made};
 ghost use Rattle.std.specs.Results.{isOk};
 ghost use Rattle.store.specs.Model.{Meaning, FreeRule, fresh, nth-answer, aside-granted, aside-after, aside-there, back-after, put-after};
 ghost use Rattle.store.specs.Index.{index-of};
+ghost use Rattle.store.specs.Runs.{Stores-remember};
 use std::alloc::AllocError;
 use std::alloc::Global;
 
@@ -79,4 +80,12 @@ pub trait VersionStore: Sized + Drop {
         ensures after { λ r. ⌜ meaning (now (self .exit)) ≡ put-after (meaning (now (self .entry))) node key version ⌝ }
         ensures rule { λ r. ⌜ free (now (self .exit)) ≡ free (now (self .entry)) ⌝ }
         ensures room { λ r. ⌜ free (now (self .exit)) (meaning (now (self .exit))) node key ≡ free (now (self .entry)) (meaning (now (self .entry))) node key ⌝ };
+}
+
+// After any list of calls on a new store, whichever were refused, each chain lists what was put there, and the places
+// set aside are those granted and not used up.
+pub fn stores_remember() -> u8
+    ensures { λ _. ⌜ Stores-remember ⌝ }
+{
+    0
 }
