@@ -25,6 +25,9 @@ fn main(rt: LibcRuntime) -> Result<(), AnyError> {
     };
     let (_, on_shelf) = shelf_takes_fifth(rt.alloc(), version)?;
     let (_, on_roll) = roll_takes_fifth(rt.alloc(), version)?;
-    println!(rt, "A place for a fifth version of one key: shelf {on_shelf}, roll {on_roll}")?;
+    println!(
+        rt,
+        "A place for a fifth version of one key: shelf {on_shelf}, roll {on_roll}"
+    )?;
     Ok(())
 }

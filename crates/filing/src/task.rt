@@ -6,12 +6,20 @@ use store::Version;
 use store::VersionStore;
 
 const DOCUMENT: u8 = 7;
+
 const FIRST_NODE: u8 = 0;
+
 const SECOND_NODE: u8 = 1;
 
 // Files a version of a document at two nodes: a place at each first, and then the version at each. Where a node has no
 // place, nothing changes, and that node is the answer.
-pub fn file_at<S: VersionStore>(store: &mut S, first: u8, second: u8, key: u8, version: Version) -> Result<(), u8>
+pub fn file_at<S: VersionStore>(
+    store: &mut S,
+    first: u8,
+    second: u8,
+    key: u8,
+    version: Version,
+) -> Result<(), u8>
     ensures answer { λ r. ⌜ r ≡ filed-answer (free (now (store .entry))) (meaning (now (store .entry))) first second key ⌝ }
     ensures after { λ r. ⌜ meaning (now (store .exit)) ≡ filed-after (free (now (store .entry))) (meaning (now (store .entry))) first second key version ⌝ }
     ensures rule { λ r. ⌜ free (now (store .exit)) ≡ free (now (store .entry)) ⌝ }
@@ -28,28 +36,50 @@ pub fn file_at<S: VersionStore>(store: &mut S, first: u8, second: u8, key: u8, v
     Ok(())
 }
 
-fn move_to<S: VersionStore>(rt: &impl Print, store: &mut S, folder: u64, number: u8) -> io::Result<()> {
+fn move_to<S: VersionStore>(
+    rt: &impl Print,
+    store: &mut S,
+    folder: u64,
+    number: u8,
+) -> io::Result<()> {
     let version = Version {
         value: folder,
         writer: number,
     };
     match file_at(store, FIRST_NODE, SECOND_NODE, DOCUMENT, version) {
-        Ok(()) => println!(rt, "  move {number}: document {DOCUMENT} goes to folder {folder}"),
-        Err(node) => println!(rt, "  move {number}: folder {folder} is refused, node {node} has no place for another version"),
+        Ok(()) => println!(
+            rt,
+            "  move {number}: document {DOCUMENT} goes to folder {folder}"
+        ),
+        Err(node) => println!(
+            rt,
+            "  move {number}: folder {folder} is refused, node {node} has no place for another version"
+        ),
     }
 }
 
 fn show_now<S: VersionStore>(rt: &impl Print, store: &S, node: u8) -> io::Result<()> {
     match store.newest(node, DOCUMENT) {
-        Some((folder, number)) => println!(rt, "  node {node}: now in folder {folder}, by move {number}"),
+        Some((folder, number)) => println!(
+            rt,
+            "  node {node}: now in folder {folder}, by move {number}"
+        ),
         None => println!(rt, "  node {node}: no such document"),
     }
 }
 
-fn show_earlier<S: VersionStore>(rt: &impl Print, store: &S, node: u8, steps: usize) -> io::Result<()> {
+fn show_earlier<S: VersionStore>(
+    rt: &impl Print,
+    store: &S,
+    node: u8,
+    steps: usize,
+) -> io::Result<()> {
     match store.nth(node, DOCUMENT, steps) {
         Some((_, 0)) => println!(rt, "  node {node}, {steps} back: not yet filed"),
-        Some((folder, number)) => println!(rt, "  node {node}, {steps} back: in folder {folder}, by move {number}"),
+        Some((folder, number)) => println!(
+            rt,
+            "  node {node}, {steps} back: in folder {folder}, by move {number}"
+        ),
         None => println!(rt, "  node {node}, {steps} back: nothing older"),
     }
 }

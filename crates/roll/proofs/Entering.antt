@@ -28,33 +28,38 @@ both : (b : Bool) (vs ws : List Version) (a d : ℕ) → chain (cond b ws vs) (c
 both true vs ws a d = refl
 both false vs ws a d = refl
 
--- The versions of one chain, and the places set aside for it, are written together.
-write-at : (vs ws : ℕ → ℕ → List Version) (xs : List Version) (ps : List ℕ) (node key a : ℕ) → node < 8 → key < 64 → length ps ≡ 512
-    → ((n k : ℕ) → ws n k ≡ cond (eqb n node && eqb k key) xs (vs n k)) → (n k : ℕ)
-    → chain (ws n k) (aside-at (set ps (node * 64 + key) a) n k) ≡ with-chain (λ i j. chain (vs i j) (aside-at ps i j)) node key (chain xs a) n k
-write-at vs ws xs ps node key a hn hk long is n k =
+-- One chain is written: its versions, or the places set aside for it.
+write-at : (vs ws : ℕ → ℕ → List Version) (xs : List Version) (ps qs : ℕ → ℕ → ℕ) (a node key : ℕ)
+    → ((n k : ℕ) → ws n k ≡ cond (eqb n node && eqb k key) xs (vs n k)) → ((n k : ℕ) → qs n k ≡ cond (eqb n node && eqb k key) a (ps n k)) → (n k : ℕ)
+    → chain (ws n k) (qs n k) ≡ with-chain (λ i j. chain (vs i j) (ps i j)) node key (chain xs a) n k
+write-at vs ws xs ps qs a node key ws-is qs-is n k =
     let b = eqb n node && eqb k key in
-    ap (λ v. chain v (aside-at (set ps (node * 64 + key) a) n k)) (is n k)
-    ∙ ap (chain (cond b xs (vs n k))) (aside-set-at ps node key a hn hk long n k)
-    ∙ both b (vs n k) xs a (aside-at ps n k)
+    ap (λ v. chain v (qs n k)) (ws-is n k) ∙ ap (chain (cond b xs (vs n k))) (qs-is n k) ∙ both b (vs n k) xs a (ps n k)
 
 same-versions : (es : List Entry) (node key n k : ℕ) → versions-of n k es ≡ cond (eqb n node && eqb k key) (versions-of node key es) (versions-of n k es)
 same-versions es node key n k = grind (arith, tells)
 
-pub aside-set : (es : List Entry) (ps : List ℕ) (node key a : ℕ) → node < 8 → key < 64 → length ps ≡ 512 → entered es (set ps (node * 64 + key) a) ≡ with-chain (entered es ps) node key (chain (versions-of node key es) a)
-unfolding entered
-aside-set es ps node key a hn hk long =
-    fun-ext (λ n. fun-ext (λ k. write-at (λ i j. versions-of i j es) (λ i j. versions-of i j es) (versions-of node key es) ps node key a hn hk long (same-versions es node key) n k))
+same-aside : (ps : List ℕ) (node key n k : ℕ) → aside-at ps n k ≡ cond (eqb n node && eqb k key) (aside-at ps node key) (aside-at ps n k)
+same-aside ps node key n k = grind (arith, tells)
 
 one-more : (es : List Entry) (e : Entry) (n k : ℕ) → versions-of n k (es ++ e ∷ []) ≡ cond (eqb n (e .node) && eqb k (e .key)) (e .version ∷ versions-of (e .node) (e .key) es) (versions-of n k es)
 one-more es e n k =
     let pushed = folded-push (with-entry n k) (first-version ∷ []) es e in
     grind (arith, tells, pushed)
 
-pub put-set : (es : List Entry) (ps : List ℕ) (e : Entry) (a : ℕ) → e .node < 8 → e .key < 64 → length ps ≡ 512 → entered (es ++ e ∷ []) (set ps (e .node * 64 + e .key) a) ≡ with-chain (entered es ps) (e .node) (e .key) (chain (e .version ∷ versions-of (e .node) (e .key) es) a)
+pub aside-written : (es : List Entry) (ps : List ℕ) (node key a : ℕ) → node < 8 → key < 64 → length ps ≡ 512 → entered es (set ps (node * 64 + key) a) ≡ with-chain (entered es ps) node key (chain (versions-of node key es) a)
 unfolding entered
-put-set es ps e a hn hk long =
-    fun-ext (λ n. fun-ext (λ k. write-at (λ i j. versions-of i j es) (λ i j. versions-of i j (es ++ e ∷ [])) (e .version ∷ versions-of (e .node) (e .key) es) ps (e .node) (e .key) a hn hk long (one-more es e) n k))
+aside-written es ps node key a hn hk long =
+    fun-ext (λ n. fun-ext (λ k.
+    write-at (λ i j. versions-of i j es) (λ i j. versions-of i j es) (versions-of node key es) (aside-at ps) (aside-at (set ps (node * 64 + key) a)) a node key
+    (same-versions es node key) (aside-set-at ps node key a hn hk long) n k))
+
+pub entry-pushed : (es : List Entry) (ps : List ℕ) (e : Entry) → entered (es ++ e ∷ []) ps ≡ with-chain (entered es ps) (e .node) (e .key) (chain (e .version ∷ versions-of (e .node) (e .key) es) (aside-at ps (e .node) (e .key)))
+unfolding entered
+entry-pushed es ps e =
+    fun-ext (λ n. fun-ext (λ k.
+    write-at (λ i j. versions-of i j es) (λ i j. versions-of i j (es ++ e ∷ [])) (e .version ∷ versions-of (e .node) (e .key) es) (aside-at ps) (aside-at ps) (aside-at ps (e .node) (e .key)) (e .node) (e .key)
+    (one-more es e) (same-aside ps (e .node) (e .key)) n k))
 
 none-at : (n k : ℕ) → aside-at (replicate 512 0) n k ≡ 0
 none-at n k =

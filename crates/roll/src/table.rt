@@ -7,6 +7,7 @@ ghost use Rattle.roll.specs.Totals.{total-of};
 ghost use Rattle.roll.specs.Entries.{entered};
 use crate::entry::Entry;
 
+mod access;
 pub mod calls;
 
 // How many places the roll has.

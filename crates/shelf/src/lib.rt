@@ -1,6 +1,6 @@
 // A version store with four places for each chain; every call takes constant time.
-pub mod slots;
-pub mod table;
+mod slots;
+mod table;
 
 pub use table::Shelf;
 pub use table::calls::ShelfStore;

@@ -6,14 +6,12 @@ ghost use Rattle.roll.specs.Totals.{room, roll-free};
 ghost use Rattle.roll.specs.Table.{roll-meaning};
 use super::PLACES;
 use super::Roll;
-use crate::entry::Entry;
 use std::alloc::AllocError;
 use std::alloc::Global;
 use store::StoreRefusal;
 use store::TransactionNumber;
 use store::Version;
 use store::VersionStore;
-use store::chain_index;
 
 pub impl VersionStore for Roll as RollStore {
     ghost meaning = { roll-meaning };
@@ -56,41 +54,30 @@ pub impl VersionStore for Roll as RollStore {
     }
 
     fn set_aside(&mut self, node: u8, key: u8) -> Result<(), StoreRefusal> {
-        let Some(i) = chain_index(node, key) else {
+        let Some(had) = self.aside_at(node, key) else {
             return Err(StoreRefusal);
         };
-        if self.entries.len() + self.total == PLACES {
+        if self.places_left() == 0 {
             return Err(StoreRefusal);
         }
-        self.aside[i] += 1;
-        self.total += 1;
+        self.set_aside_at(node, key, had + 1);
         Ok(())
     }
 
     fn give_back(&mut self, node: u8, key: u8) -> Result<(), StoreRefusal> {
-        let Some(i) = chain_index(node, key) else {
+        let Some(had) = self.aside_at(node, key) else {
             return Err(StoreRefusal);
         };
-        let had = self.aside[i];
         if had == 0 {
             return Err(StoreRefusal);
         }
-        self.aside[i] = had - 1;
-        self.total -= 1;
+        self.set_aside_at(node, key, had - 1);
         Ok(())
     }
 
     fn put(&mut self, node: u8, key: u8, version: Version) -> Result<(), StoreRefusal> {
-        let Some(i) = chain_index(node, key) else {
-            return Err(StoreRefusal);
-        };
-        let had = self.aside[i];
-        if had == 0 {
-            return Err(StoreRefusal);
-        }
-        self.aside[i] = had - 1;
-        self.total -= 1;
-        self.entries.push_reserved(Entry { node, key, version });
+        self.give_back(node, key)?;
+        self.push(node, key, version);
         Ok(())
     }
 }

@@ -41,12 +41,20 @@ impl Slots {
         }
     }
 
+    // How many of the places are free.
+    pub fn places_left(&self) -> usize
+        ensures value { λ r. ⌜ r ≡ places-left 4 (chain-of (now (self .entry))) ⌝ }
+        ensures count { λ r. ⌜ r + now (self .entry) .stored + now (self .entry) .aside ≡ 4 ⌝ }
+    {
+        PLACES - self.stored - self.aside
+    }
+
     pub fn set_aside(&mut self) -> Result<(), StoreRefusal>
         ensures answer { λ r. ⌜ isOk r ≡ ltb 0 (places-left 4 (chain-of (now (self .entry)))) ⌝ }
         ensures after { λ r. ⌜ chain-of (now (self .exit)) ≡ cond (ltb 0 (places-left 4 (chain-of (now (self .entry))))) (one-aside (chain-of (now (self .entry)))) (chain-of (now (self .entry))) ⌝ }
         ensures room { λ r. ⌜ places-left 4 (chain-of (now (self .exit))) + cond (isOk r) 1 0 ≡ places-left 4 (chain-of (now (self .entry))) ⌝ }
     {
-        if self.stored + self.aside == PLACES {
+        if self.places_left() == 0 {
             return Err(StoreRefusal);
         }
         self.aside += 1;

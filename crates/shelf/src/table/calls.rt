@@ -9,7 +9,6 @@ use store::StoreRefusal;
 use store::TransactionNumber;
 use store::Version;
 use store::VersionStore;
-use store::chain_index;
 
 pub impl VersionStore for Shelf as ShelfStore {
     ghost meaning = { shelf-meaning };
@@ -27,28 +26,36 @@ pub impl VersionStore for Shelf as ShelfStore {
     }
 
     fn nth(&self, node: u8, key: u8, steps: usize) -> Option<(u64, TransactionNumber)> {
-        let i = chain_index(node, key)?;
-        self.chains[i].nth(steps)
+        match self.slots(node, key) {
+            Some(slots) => slots.nth(steps),
+            None => None,
+        }
     }
 
     fn set_aside(&mut self, node: u8, key: u8) -> Result<(), StoreRefusal> {
-        match chain_index(node, key) {
-            Some(i) => self.chains[i].set_aside(),
-            None => Err(StoreRefusal),
-        }
+        let Some(mut slots) = self.slots(node, key) else {
+            return Err(StoreRefusal);
+        };
+        slots.set_aside()?;
+        self.set_slots(node, key, slots);
+        Ok(())
     }
 
     fn give_back(&mut self, node: u8, key: u8) -> Result<(), StoreRefusal> {
-        match chain_index(node, key) {
-            Some(i) => self.chains[i].give_back(),
-            None => Err(StoreRefusal),
-        }
+        let Some(mut slots) = self.slots(node, key) else {
+            return Err(StoreRefusal);
+        };
+        slots.give_back()?;
+        self.set_slots(node, key, slots);
+        Ok(())
     }
 
     fn put(&mut self, node: u8, key: u8, version: Version) -> Result<(), StoreRefusal> {
-        match chain_index(node, key) {
-            Some(i) => self.chains[i].put(version),
-            None => Err(StoreRefusal),
-        }
+        let Some(mut slots) = self.slots(node, key) else {
+            return Err(StoreRefusal);
+        };
+        slots.put(version)?;
+        self.set_slots(node, key, slots);
+        Ok(())
     }
 }
