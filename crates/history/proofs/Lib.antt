@@ -1,0 +1,15 @@
+pub mod Basics
+pub mod Table
+pub mod Locks
+pub mod Numbers
+pub mod Clocks
+pub mod Chains
+pub mod Snapshots
+pub mod Stamps
+pub mod Scripts
+pub mod Bounds
+pub mod Invariants
+pub mod Serial
+pub mod Final
+pub mod Run
+pub mod Refinement

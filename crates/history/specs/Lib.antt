@@ -1,0 +1,5 @@
+pub mod Table
+pub mod Protocol
+pub mod History
+pub mod Statements
+pub mod Example

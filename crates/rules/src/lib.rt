@@ -1,0 +1,3 @@
+//! The rules of the catalogue: its records, and what each call answers and does.
+
+pub mod records;
