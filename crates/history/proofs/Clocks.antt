@@ -1,14 +1,14 @@
 -- The decisions and the clocks: the commit clock of a later update is above that of an earlier one with which it conflicts.
 use mathlib.Core.Path.{_≡_, refl, sym, ap, _∙_}
 use mathlib.Core.List.{List, _∷_}
-use mathlib.Core.Logic.{inl, inr}
-use mathlib.Core.Bool.{Bool, true, false}
+use mathlib.Core.Logic.{_⊎_, inl, inr}
+use mathlib.Core.Bool.{Bool, true, false, _&&_, _||_}
 use Prim.Native.Nat.{ℕ, _≤_, _<_}
 use native.Mathlib.Nat.{le-trans}
 use native.Mathlib.Omega.{arith}
 use Rattle.std.proofs.shelf.Tests.{cases-eq}
 use Rattle.history.specs.Table.{Version, update-at, Member, Later}
-use Rattle.history.specs.Protocol.{Placement, Clock, join, Status, Open, Offered, Committed, Aborted, Finished, State, status, clock, read-at, noted, wrote, vote-clock, stamp, commit-clock, frontier, seen, engaged, applied, conflict, becomes, releases, change-transaction, change-participation, Event, begin, read-own, read-search, read-update, write, offer, yes-write, yes-read, no-overtaken, no-place, commit, abort, cancel, learn-abort, learn-write, learn-read, apply, finish, Joined, Write-node, Reads, May-vote, next, Accepted}
+use Rattle.history.specs.Protocol.{Placement, Clock, join, Status, Open, Offered, Committed, Aborted, Finished, State, status, clock, read-at, noted, wrote, vote-clock, stamp, commit-clock, frontier, seen, engaged, applied, touched, conflict, becomes, releases, change-transaction, change-participation, Event, begin, read-own, read-search, read-update, write, offer, yes-write, yes-read, no-overtaken, no-place, commit, abort, cancel, learn-abort, learn-write, learn-read, apply, finish, Joined, Write-node, Reads, May-vote, next, Accepted}
 use Rattle.history.specs.History.{decisions}
 use Rattle.history.proofs.Basics.{update-at₂, same, other, other₂, slot, hit, drop, set-true, is-begun, frozen, clear, differ, not-committed, committed-before, committed-after, conflict-left, conflict-right, later-first, later-second}
 use Rattle.history.proofs.Locks.{Locks, all-engaged, Moves, begin-moves, offer-moves, abort-moves, cancel-moves, finish-moves}
@@ -94,9 +94,11 @@ seen-joined s t p x z e = grind arith
 still-offered : (s : State) (t x : ℕ) → update-at (status s) t Committed x ≡ Offered → (x ≡ t → ⊥) × (status s x ≡ Offered)
 still-offered s t x e = grind arith
 
-module _ (holds : Placement) (modulus : ℕ) (holder : ℕ → ℕ) (holder-holds : (k : ℕ) → holds (holder k) k ≡ true) where
+module _ (holds : Placement) (modulus : ℕ) where
   abbrev pub Clocks : List Event → State → Type 0
   Clocks h s = record {
+    -- Only keys that some node holds are written.
+    written-placed : (t k : ℕ) → wrote s t k ≡ true → (p : ℕ) × (holds p k ≡ true);
     -- Only write nodes apply an update.
     applied-write-node : (t p : ℕ) → applied s t p ≡ true → Write-node holds s t p;
     -- A commit clock has the stamp in the slots of the write nodes, and nothing above it elsewhere.
@@ -162,6 +164,16 @@ module _ (holds : Placement) (modulus : ℕ) (holder : ℕ → ℕ) (holder-hold
       rest : (x ≡ t → ⊥) × (status s x ≡ Offered)
       rest = still-offered s t x e₂
 
+  -- a key at which two updates conflict is written by one of them
+  conflict-placed : (h : List Event) (s : State) → Clocks h s → (u t k : ℕ) → conflict s u t k ≡ true → (p : ℕ) × (holds p k ≡ true)
+  conflict-placed h s i u t k e = elim (writer (wrote s u k) (touched s t k) (noted s u k) (wrote s t k) e) [
+    | inl w ↦ i .written-placed u k w
+    | inr w ↦ i .written-placed t k w
+  ]
+    where
+      writer : (a b c d : Bool) → ((a && b) || (c && d)) ≡ true → (a ≡ true) ⊎ (d ≡ true)
+      writer a b c d e = grind arith
+
   commit-conflict-ordered : (h : List Event) (s : State) (t n : ℕ) (c : Clock) → Locks holds modulus s → Decisions holds modulus h s → Clocks h s →
       Accepted holds modulus s (commit t n c) →
       (x u k : ℕ) → Later x u (t ∷ decisions h) → conflict s u x k ≡ true → (z : ℕ) → update-at (commit-clock s) t c u z ≤ update-at (commit-clock s) t c x z
@@ -173,8 +185,9 @@ module _ (holds : Placement) (modulus : ℕ) (holder : ℕ → ℕ) (holder-hold
       let cu = dd .decided-committed u (b .1) in
       let du = differ (status s) t u Offered (ok .offered) refl cu in
       let e′ : conflict s u t k ≡ true = rw (b .0) at e in
-      let et = all-engaged holds modulus s t n c l ok (holder k) k (conflict-right s u t k e′) (holder-holds k) in
-      let g = i .engaged-votes t u (holder k) k et (ok .offered) cu e′ (holder-holds k) z in
+      let p = conflict-placed h s i u t k e′ in
+      let et = all-engaged holds modulus s t n c l ok (p .0) k (conflict-right s u t k e′) (p .1) in
+      let g = i .engaged-votes t u (p .0) k et (ok .offered) cu e′ (p .1) z in
       let a = commit-above holds modulus s t n c ok z in
       rw (slot (commit-clock s) t c u z du, b .0, ap (λ (f : Clock). f z) (same (commit-clock s) t c)) (omega arith)
 
@@ -199,6 +212,7 @@ module _ (holds : Placement) (modulus : ℕ) (holder : ℕ → ℕ) (holder-hold
   clocks-move : (h : List Event) (s : State) (t : ℕ) (y : Status) → Moves holds modulus s t y → Clocks h s →
       Clocks h (change-transaction t (becomes y) s)
   clocks-move h s t y m i = record {
+    written-placed = i .written-placed;
     applied-write-node = i .applied-write-node;
     write-slot = λ u q j e. i .write-slot u q j (committed-before (status s) t y u (m .to) e);
     below-stamp = λ u p j q e. i .below-stamp u p j q (committed-before (status s) t y u (m .to) e);
@@ -213,6 +227,7 @@ module _ (holds : Placement) (modulus : ℕ) (holder : ℕ → ℕ) (holder-hold
   clocks-read-search : (h : List Event) (s : State) (t k p : ℕ) (a : Version) (c : Clock) → Locks holds modulus s → Numbers holds modulus s →
       Clocks h s → Reads holds s t k p a c → Clocks h (next holds s (read-search t k p a c))
   clocks-read-search h s t k p a c l nn i ok = record {
+    written-placed = i .written-placed;
     applied-write-node = i .applied-write-node;
     write-slot = i .write-slot;
     below-stamp = i .below-stamp;
@@ -238,6 +253,7 @@ module _ (holds : Placement) (modulus : ℕ) (holder : ℕ → ℕ) (holder-hold
   clocks-read-update : (h : List Event) (s : State) (t k p : ℕ) (a : Version) (c : Clock) → Locks holds modulus s → Numbers holds modulus s →
       Decisions holds modulus h s → Clocks h s → Reads holds s t k p a c → Clocks h (next holds s (read-update t k p a c))
   clocks-read-update h s t k p a c l nn dd i ok = record {
+    written-placed = i .written-placed;
     applied-write-node = i .applied-write-node;
     write-slot = i .write-slot;
     below-stamp = i .below-stamp;
@@ -252,6 +268,7 @@ module _ (holds : Placement) (modulus : ℕ) (holder : ℕ → ℕ) (holder-hold
   clocks-write : (h : List Event) (s : State) (t k v : ℕ) → Locks holds modulus s → Decisions holds modulus h s → Clocks h s →
       Accepted holds modulus s (write t k v) → Clocks h (next holds s (write t k v))
   clocks-write h s t k v l dd i ok = record {
+    written-placed = λ u j w. elim (hit (wrote s) t k u j w) [ inl x ↦ rw (x .1) (ok .2) | inr x ↦ i .written-placed u j x ];
     applied-write-node = λ u q e. let w = i .applied-write-node u q e in (w .0, set-true (wrote s) t k u (w .0) (w .1), w .2);
     write-slot = λ u q j e w. i .write-slot u q j e (sym (kept u j (differ (status s) t u Open (ok .0) refl e) .1) ∙ w);
     below-stamp = λ u p j q e w. i .below-stamp u p j q e (sym (kept u j (differ (status s) t u Open (ok .0) refl e) .1) ∙ w);
@@ -267,6 +284,7 @@ module _ (holds : Placement) (modulus : ℕ) (holder : ℕ → ℕ) (holder-hold
   clocks-yes : (h : List Event) (s : State) (t p : ℕ) → Locks holds modulus s → Clocks h s → May-vote holds s t p →
       Clocks h (next holds s (yes-read t p))
   clocks-yes h s t p l i ok = record {
+    written-placed = i .written-placed;
     applied-write-node = i .applied-write-node;
     write-slot = i .write-slot;
     below-stamp = i .below-stamp;
@@ -277,6 +295,7 @@ module _ (holds : Placement) (modulus : ℕ) (holder : ℕ → ℕ) (holder-hold
 
   clocks-release : (h : List Event) (s : State) (t p : ℕ) → Clocks h s → Clocks h (change-participation t p releases s)
   clocks-release h s t p i = record {
+    written-placed = i .written-placed;
     applied-write-node = i .applied-write-node;
     write-slot = i .write-slot;
     below-stamp = i .below-stamp;
@@ -288,6 +307,7 @@ module _ (holds : Placement) (modulus : ℕ) (holder : ℕ → ℕ) (holder-hold
   clocks-commit : (h : List Event) (s : State) (t n : ℕ) (c : Clock) → Locks holds modulus s → Decisions holds modulus h s → Clocks h s →
       Accepted holds modulus s (commit t n c) → Clocks (commit t n c ∷ h) (next holds s (commit t n c))
   clocks-commit h s t n c l dd i ok = record {
+    written-placed = i .written-placed;
     applied-write-node = i .applied-write-node;
     write-slot = λ u q j e₁ e₂ e₃. commit-stamp-slots h s t n c i ok u q j q e₁ e₂ e₃ .0;
     below-stamp = λ u p j q e₁ e₂ e₃. commit-stamp-slots h s t n c i ok u p j q e₁ e₂ e₃ .1;
@@ -299,6 +319,7 @@ module _ (holds : Placement) (modulus : ℕ) (holder : ℕ → ℕ) (holder-hold
   clocks-apply : (h : List Event) (s : State) (t p : ℕ) → Locks holds modulus s → Numbers holds modulus s → Clocks h s →
       Accepted holds modulus s (apply t p) → Clocks h (next holds s (apply t p))
   clocks-apply h s t p l nn i ok = record {
+    written-placed = i .written-placed;
     applied-write-node = λ u q e. elim (hit (applied s) t p u q e) [ inr a ↦ i .applied-write-node u q a | inl b ↦ rw (b .0, b .1) (ok .write-node) ];
     write-slot = i .write-slot;
     below-stamp = i .below-stamp;

@@ -34,7 +34,7 @@ conflicts wu ru wx rx nu nx f g e = grind arith
 both-applied : (a b : Bool) → (a && b) ≡ true → b ≡ true
 both-applied a b e = grind arith
 
-module _ (holds : Placement) (modulus : ℕ) (holder : ℕ → ℕ) (holder-holds : (k : ℕ) → holds (holder k) k ≡ true) where
+module _ (holds : Placement) (modulus : ℕ) where
   -- an update that writes at p, by its record and by its script
   writes-by-script : (h : List Event) (s : State) → Scripts holds modulus h s → (u p : ℕ) → Write-node holds s u p → Writes-at holds h u p
   writes-by-script h s i u p w = (w .0, i .script-wrote u (w .0) ∙ w .1, w .2)
@@ -44,7 +44,7 @@ module _ (holds : Placement) (modulus : ℕ) (holder : ℕ → ℕ) (holder-hold
 
   -- a slot above the frontier is the stamp of a committed update that writes there, and what is applied there has a stamp at or below the
   -- frontier; what is not applied there is engaged there, with a number above the frontier and not above its stamp
-  behind : (h : List Event) (s : State) → Invariants holds modulus holder holder-holds h s → Behind-exactly holds h s
+  behind : (h : List Event) (s : State) → Invariants holds modulus h s → Behind-exactly holds h s
   behind h s i t p = (lacks, ahead)
     where
       lacks : frontier s p < clock s t p → Yet-to-apply holds h s t p
@@ -75,10 +75,10 @@ module _ (holds : Placement) (modulus : ℕ) (holder : ℕ → ℕ) (holder-hold
           omega arith
 
   -- where nothing was read every version passes
-  first-current : (h : List Event) (s : State) → Invariants holds modulus holder holder-holds h s → First-read-current holds h s
+  first-current : (h : List Event) (s : State) → Invariants holds modulus h s → First-read-current holds h s
   first-current h s i t p none = (
     (let e = i .stamps .unread-zero t p unread in omega arith),
-    λ k a c ok. go k a c ok (chain s p k) refl (ok .answer) ∙ ap newest (i .ground .chains .lists-history p k (ok .held) ∙ same-writers holds modulus holder holder-holds h s (i .scripts) k (applied-at h p)),
+    λ k a c ok. go k a c ok (chain s p k) refl (ok .answer) ∙ ap newest (i .ground .chains .lists-history p k (ok .held) ∙ same-writers holds modulus h s (i .scripts) k (applied-at h p)),
   )
     where
       unread : (q : ℕ) → read-at s t q ≡ false
@@ -109,20 +109,22 @@ module _ (holds : Placement) (modulus : ℕ) (holder : ℕ → ℕ) (holder-hold
 
   -- the earlier one's stamp is a slot of its commit clock, which is below the later one's commit clock and so at or below its stamp; and the
   -- two stamps leave different remainders
-  stamps-ordered : (h : List Event) (s : State) → Invariants holds modulus holder holder-holds h s → Stamps-follow-decisions h s
+  stamps-ordered : (h : List Event) (s : State) → Invariants holds modulus h s → Stamps-follow-decisions h s
   stamps-ordered h s i t u k b e pt pu =
       let wt : (j : ℕ) × (wrote s t j ≡ true) = (pt .0, sym (i .scripts .script-wrote t (pt .0)) ∙ pt .1) in
       let wu : (j : ℕ) × (wrote s u j ≡ true) = (pu .0, sym (i .scripts .script-wrote u (pu .0)) ∙ pu .1) in
       let g = i .ground in
       let ct = g .decisions-ordered .decided-committed t (later-first t u (decisions h) b) in
       let cu = g .decisions-ordered .decided-committed u (later-second t u (decisions h) b) in
-      let p = holder (wu .0) in
-      let q = holder (wt .0) in
-      let a = g .clocks .write-slot u p (wu .0) cu (wu .1) (holder-holds (wu .0)) in
+      let holder-u = g .clocks .written-placed u (wu .0) (wu .1) in
+      let holder-t = g .clocks .written-placed t (wt .0) (wt .1) in
+      let p = holder-u .0 in
+      let q = holder-t .0 in
+      let a = g .clocks .write-slot u p (wu .0) cu (wu .1) (holder-u .1) in
       let c = g .clocks .conflict-ordered t u k b (conflict-by-record h s (i .scripts) u t k cu ct e) p in
-      let d = g .clocks .below-stamp t q (wt .0) p ct (wt .1) (holder-holds (wt .0)) in
-      let ru = g .numbers .stamp-remainder u p (wu .0) cu (wu .1) (holder-holds (wu .0)) in
-      let rt = g .numbers .stamp-remainder t q (wt .0) ct (wt .1) (holder-holds (wt .0)) in
+      let d = g .clocks .below-stamp t q (wt .0) p ct (wt .1) (holder-t .1) in
+      let ru = g .numbers .stamp-remainder u p (wu .0) cu (wu .1) (holder-u .1) in
+      let rt = g .numbers .stamp-remainder t q (wt .0) ct (wt .1) (holder-t .1) in
       elim (cases-lt (stamp s u) (stamp s t)) [
         | inl lt ↦ lt
         | inr le ↦
@@ -132,17 +134,15 @@ module _ (holds : Placement) (modulus : ℕ) (holder : ℕ → ℕ) (holder-hold
       ]
 
 pub histories-stand : Histories-stand
-histories-stand holds modulus nodes positive held-somewhere small h s r =
-    let holder = λ (k : ℕ). held-somewhere k .0 in
-    let holder-holds = λ (k : ℕ). held-somewhere k .1 in
-    let i = invariants holds modulus holder holder-holds r in
+histories-stand holds modulus nodes positive small h s r =
+    let i = invariants holds modulus r in
     let dd = i .ground .decisions-ordered in
     record {
-      decision-order-serial = record { all = dd .committed-decided; only = dd .decided-committed; once = dd .decided-once; answered = decisions-answered holds modulus holder holder-holds r };
-      chains-list-writers = chains-list holds modulus holder holder-holds h s (i .scripts) (i .ground .chains);
-      uncommitted-has-a-place = uncommitted-placed holds modulus holder holder-holds r nodes small;
-      behind-exactly = behind holds modulus holder holder-holds h s i;
-      first-read-current = first-current holds modulus holder holder-holds h s i;
-      stamps-follow-decisions = stamps-ordered holds modulus holder holder-holds h s i;
+      decision-order-serial = record { all = dd .committed-decided; only = dd .decided-committed; once = dd .decided-once; answered = decisions-answered holds modulus r };
+      chains-list-writers = chains-list holds modulus h s (i .scripts) (i .ground .chains);
+      uncommitted-has-a-place = uncommitted-placed holds modulus r nodes small;
+      behind-exactly = behind holds modulus h s i;
+      first-read-current = first-current holds modulus h s i;
+      stamps-follow-decisions = stamps-ordered holds modulus h s i;
       numbers-bounded = numbers-bounded holds modulus nodes positive small r;
     }

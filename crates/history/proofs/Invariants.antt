@@ -1,8 +1,8 @@
 -- All invariants, of every reachable state with its history.
-use mathlib.Core.Path.{_≡_, refl}
+use mathlib.Core.Path.{refl}
 use mathlib.Core.List.{List, []}
 use mathlib.Core.Logic.{inl}
-use mathlib.Core.Bool.{true, false}
+use mathlib.Core.Bool.{false}
 use Prim.Native.Nat.{ℕ}
 use Rattle.history.specs.Protocol.{Placement, Unbegun, State, fresh, Event, Reachable, start, then}
 use Rattle.history.proofs.Basics.{clear, not-committed}
@@ -14,16 +14,16 @@ use Rattle.history.proofs.Snapshots.{Ground, Snapshots, snapshots}
 use Rattle.history.proofs.Stamps.{Stamps, stamps}
 use Rattle.history.proofs.Scripts.{Scripts, scripts}
 
-module _ (holds : Placement) (modulus : ℕ) (holder : ℕ → ℕ) (holder-holds : (k : ℕ) → holds (holder k) k ≡ true) where
+module _ (holds : Placement) (modulus : ℕ) where
   abbrev pub Invariants : List Event → State → Type 0
   Invariants h s = record {
-    ground : Ground holds modulus holder holder-holds h s;
-    snapshots : Snapshots holds modulus holder holder-holds h s;
+    ground : Ground holds modulus h s;
+    snapshots : Snapshots holds modulus h s;
     scripts : Scripts holds modulus h s;
     stamps : Stamps holds modulus s;
   }
 
-  fresh-ground : Ground holds modulus holder holder-holds [] fresh
+  fresh-ground : Ground holds modulus [] fresh
   fresh-ground = record {
     locks = locks-fresh holds modulus;
     numbers = numbers-fresh holds modulus;
@@ -34,6 +34,7 @@ module _ (holds : Placement) (modulus : ℕ) (holder : ℕ → ℕ) (holder-hold
       begun-positive = λ t e. absurd (clear false e refl);
     };
     clocks = record {
+      written-placed = λ t k e. absurd (clear false e refl);
       applied-write-node = λ t p e. absurd (clear false e refl);
       write-slot = λ u q k e. absurd (not-committed Unbegun Unbegun refl refl e);
       below-stamp = λ u p k q e. absurd (not-committed Unbegun Unbegun refl refl e);
@@ -91,10 +92,10 @@ module _ (holds : Placement) (modulus : ℕ) (holder : ℕ → ℕ) (holder-hold
           locks = locks holds modulus s e (g .locks) ok;
           numbers = numbers holds modulus s e (g .locks) (g .numbers) ok;
           decisions-ordered = decisions-stand holds modulus h s e (g .locks) (g .decisions-ordered) ok;
-          clocks = clocks holds modulus holder holder-holds h s e (g .locks) (g .numbers) (g .decisions-ordered) (g .clocks) ok;
+          clocks = clocks holds modulus h s e (g .locks) (g .numbers) (g .decisions-ordered) (g .clocks) ok;
           chains = chains holds modulus h s e (g .locks) (g .decisions-ordered) (g .chains) ok;
         };
-        snapshots = snapshots holds modulus holder holder-holds h s e g (i .snapshots) ok;
+        snapshots = snapshots holds modulus h s e g (i .snapshots) ok;
         scripts = scripts holds modulus h s e (i .scripts) ok;
         stamps = stamps holds modulus s e (g .locks) (i .stamps) ok;
       }

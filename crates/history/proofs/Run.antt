@@ -50,7 +50,7 @@ h₁₈ = learn-write 3 0 ∷ h₁₇
 abbrev h₁₉ : List Event
 h₁₉ = apply 3 0 ∷ h₁₈
 
--- what has no holder among the keys
+-- no other node holds a key
 elsewhere : (q k : ℕ) → eqb q 0 ≡ false → eqb q 1 ≡ false → two-nodes q k ≡ true → ⊥
 elsewhere q k a b e = grind arith
 
@@ -217,8 +217,8 @@ run-accepted =
     (then (write 1 0 70)
     (then (begin 1 Update) start
     (refl, lit< tt))
-    (refl, refl))
-    (refl, refl))
+    (refl, refl, (0, refl)))
+    (refl, refl, (1, refl)))
     (refl, refl))
     ok₅)
     ok₆)
@@ -229,7 +229,7 @@ run-accepted =
     ok₁₁)
     (refl, lit< tt))
     ok₁₃)
-    (refl, refl))
+    (refl, refl, (0, refl)))
     (refl, refl))
     ok₁₆)
     ok₁₇)

@@ -108,7 +108,7 @@ picks s k v l =
     at [] = refl
     at (x ∷ c) = inl ((λ q e. absurd (clear false e refl)), refl)
 
-module _ (holds : Placement) (modulus : ℕ) (holder : ℕ → ℕ) (holder-holds : (k : ℕ) → holds (holder k) k ≡ true) where
+module _ (holds : Placement) (modulus : ℕ) where
   -- ── What the committed did remains ──
 
   committed-next : (s : State) (e : Event) → Locks holds modulus s → Accepted holds modulus s e → (u : ℕ) → status s u ≡ Committed →
@@ -153,7 +153,7 @@ module _ (holds : Placement) (modulus : ℕ) (holder : ℕ → ℕ) (holder-hold
   nothing-added s (apply t p) ok u c x y = (refl, refl)
   nothing-added s (finish t) ok u c x y = (refl, refl)
 
-  module _ (h : List Event) (s : State) (e : Event) (i : Invariants holds modulus holder holder-holds h s) (ok : Accepted holds modulus s e) where
+  module _ (h : List Event) (s : State) (e : Event) (i : Invariants holds modulus h s) (ok : Accepted holds modulus s e) where
     unmoved : (u : ℕ) → Member u (decisions h) → (script h u ≡ script (e ∷ h) u) × (committed s u ≡ committed (next holds s e) u)
     unmoved u m = let c = i .ground .decisions-ordered .decided-committed u m in (nothing-added s e ok u c (script h u) (got h u) .0, ap is-committed (c ∙ sym (committed-next s e (i .ground .locks) ok u c)))
 
@@ -184,13 +184,13 @@ module _ (holds : Placement) (modulus : ℕ) (holder : ℕ → ℕ) (holder-hold
       ((a ≡ first-version) ⊎ ((status s (a .writer) ≡ Committed) × (a ≡ written-version s k (a .writer)))) →
       ((b ≡ first-version) ⊎ ((status s (b .writer) ≡ Committed) × (b ≡ written-version s k (b .writer)))) → a .writer ≡ b .writer → a ≡ b
   same-writer h s dd k a b x y e = elim x [
-    | inl p ↦ elim y [ inl q ↦ p ∙ sym q | inr q ↦ absurd (nobody holds modulus holder holder-holds h s dd a p (b .writer) (q .0) (inl (sym e))) ]
-    | inr p ↦ elim y [ inl q ↦ absurd (nobody holds modulus holder holder-holds h s dd b q (a .writer) (p .0) (inl e)) | inr q ↦ p .1 ∙ ap (written-version s k) e ∙ sym (q .1) ]
+    | inl p ↦ elim y [ inl q ↦ p ∙ sym q | inr q ↦ absurd (nobody holds modulus h s dd a p (b .writer) (q .0) (inl (sym e))) ]
+    | inr p ↦ elim y [ inl q ↦ absurd (nobody holds modulus h s dd b q (a .writer) (p .0) (inl e)) | inr q ↦ p .1 ∙ ap (written-version s k) e ∙ sym (q .1) ]
   ]
 
   -- when t is decided, what it read is what the table has: the newest version at a holder is that of the last committed writer, for every
   -- committed writer is applied there, being engaged there no more
-  read-is-last : (h : List Event) (s : State) (t n : ℕ) (c : Clock) → Invariants holds modulus holder holder-holds h s →
+  read-is-last : (h : List Event) (s : State) (t n : ℕ) (c : Clock) → Invariants holds modulus h s →
       Accepted holds modulus s (commit t n c) → (k p : ℕ) (a : Version) → Was-read h t k p a → table-of h s (decisions h) k ≡ a
   read-is-last h s t n c i ok k p a r =
       let g = i .ground in
@@ -212,7 +212,7 @@ module _ (holds : Placement) (modulus : ℕ) (holder : ℕ → ℕ) (holder-hold
           let cu = i .ground .decisions-ordered .decided-committed u m in
           writer-applied s u t p k (λ wu. l .writer-kept u p k cu wu hp) (λ eu. l .engaged-compatible u t p k eu et (differ (status s) t u Offered (ok .offered) refl cu) hp) e
 
-  answered-next : (h : List Event) (s : State) (e : Event) → Invariants holds modulus holder holder-holds h s → Accepted holds modulus s e →
+  answered-next : (h : List Event) (s : State) (e : Event) → Invariants holds modulus h s → Accepted holds modulus s e →
       Answered h s (decisions h) → Answered (e ∷ h) (next holds s e) (decisions (e ∷ h))
   answered-next h s (begin t a) i ok p = still-answered h s (begin t a) i ok p
   answered-next h s (read-own t k a) i ok p = still-answered h s (read-own t k a) i ok p
@@ -238,7 +238,7 @@ module _ (holds : Placement) (modulus : ℕ) (holder : ℕ → ℕ) (holder-hold
 
   state-answered : {h : List Event} {s : State} → Reachable holds modulus h s → Answered h s (decisions h)
   state-answered start = tt
-  state-answered (then {h = h} {s = s} e r ok) = answered-next h s e (invariants holds modulus holder holder-holds r) ok (state-answered r)
+  state-answered (then {h = h} {s = s} e r ok) = answered-next h s e (invariants holds modulus r) ok (state-answered r)
 
   -- the history says who is committed
   same-committed : (h : List Event) (s : State) → Decisions holds modulus h s → committed s ≡ stays h
@@ -253,7 +253,7 @@ module _ (holds : Placement) (modulus : ℕ) (holder : ℕ → ℕ) (holder-hold
   pub decisions-answered : {h : List Event} {s : State} → Reachable holds modulus h s → Order-answered h (decisions h)
   decisions-answered {h} {s} r =
       subst (λ (f : ℕ → Bool). All-answered (script h) f (got h) (decisions h) first-table)
-      (same-committed h s (invariants holds modulus holder holder-holds r .ground .decisions-ordered)) (state-answered r)
+      (same-committed h s (invariants holds modulus r .ground .decisions-ordered)) (state-answered r)
 
   -- and who writes what
   pub same-writers : (h : List Event) (s : State) → Scripts holds modulus h s → (k : ℕ) (order : List ℕ) → writers-of s k order ≡ writers h k order
@@ -278,7 +278,7 @@ module _ (holds : Placement) (modulus : ℕ) (holder : ℕ → ℕ) (holder-hold
       (apart-bools (wrote s u k) (gets (script h u) k) (wrote s x k) (gets (script h x) k) (noted s u k) (noted s x k) (i .read-touched u k (i .offered-update u (rw cu refl))) (i .read-touched x k (i .offered-update x (rw cx refl))) (n k))
 
   -- the order: what is visible to t, then t, then the rest, each part in the order of decision; v tests visibility
-  module _ (h : List Event) (s : State) (i : Invariants holds modulus holder holder-holds h s) (t : ℕ) (undecided : status s t ≡ Committed → ⊥) (v : ℕ → Bool)
+  module _ (h : List Event) (s : State) (i : Invariants holds modulus h s) (t : ℕ) (undecided : status s t ≡ Committed → ⊥) (v : ℕ → Bool)
       (test : (u : ℕ) → Member u (decisions h) → (v u ≡ true → Visible s u t) × (Visible s u t → v u ≡ true)) where
     -- what is visible is closed: an earlier update that conflicts with a visible one has a lower commit clock, so it is visible too
     closed : (u x : ℕ) → Later x u (decisions h) → v u ≡ false → v x ≡ true → Apart (script h u) (script h x)
@@ -309,7 +309,7 @@ module _ (holds : Placement) (modulus : ℕ) (holder : ℕ → ℕ) (holder-hold
         x : Picks s k pass (decisions h) b
         x = picks s k pass (decisions h)
 
-        n : Snapshot holds modulus holder holder-holds h s t k p a
+        n : Snapshot holds modulus h s t k p a
         n = i .snapshots .snapshot t k p a r undecided
 
         latest : Member (b .writer) (decisions h) → pass (b .writer) ≡ true → (b .writer ≡ a .writer) ⊎ Later (a .writer) (b .writer) (decisions h)
@@ -319,13 +319,13 @@ module _ (holds : Placement) (modulus : ℕ) (holder : ℕ → ℕ) (holder-hold
         eq = elim (n .origin) [
           | inl e ↦ elim (x .0) [
             | inl f ↦ e ∙ sym f
-            | inr f ↦ absurd (nobody holds modulus holder holder-holds h s dd a e (b .writer) (dd .decided-committed _ (f .0)) (latest (f .0) (f .1)))
+            | inr f ↦ absurd (nobody holds modulus h s dd a e (b .writer) (dd .decided-committed _ (f .0)) (latest (f .0) (f .1)))
           ]
           | inr o ↦
               let m = dd .committed-decided (a .writer) (o .0) in
               let newer = x .1 (a .writer) m (and-from (v (a .writer)) (wrote s (a .writer) k) (test _ m .1 (λ q r. o .3 q)) (o .1)) in
               elim (x .0) [
-                | inl f ↦ absurd (nobody holds modulus holder holder-holds h s dd b f (a .writer) (o .0) newer)
+                | inl f ↦ absurd (nobody holds modulus h s dd b f (a .writer) (o .0) newer)
                 | inr f ↦ elim newer [
                   | inl e ↦ o .2 ∙ ap (written-version s k) e ∙ sym (f .2)
                   | inr c ↦ elim (latest (f .0) (f .1)) [
@@ -374,7 +374,7 @@ module _ (holds : Placement) (modulus : ℕ) (holder : ℕ → ℕ) (holder-hold
   pub uncommitted-placed : {h : List Event} {s : State} → Reachable holds modulus h s → (nodes : ℕ) → ((p k : ℕ) → holds p k ≡ true → p < nodes) →
       Uncommitted-has-a-place h
   uncommitted-placed {h} {s} r nodes small t undecided =
-      let i = invariants holds modulus holder holder-holds r in
+      let i = invariants holds modulus r in
       let dd = i .ground .decisions-ordered in
       let v = λ (u : ℕ). sees-below nodes s u t in
       let q = placed h s i t (λ c. undecided (dd .committed-decided t c)) v (λ u m. sees-tests h s (i .stamps) nodes small u t) (state-answered r) in

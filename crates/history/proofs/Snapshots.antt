@@ -100,14 +100,14 @@ kind-before : (s : State) (t : ℕ) (a : Kind) (x : ℕ) → status s t ≡ Unbe
     kind s x ≡ Update
 kind-before s t a x o e f = grind arith
 
-module _ (holds : Placement) (modulus : ℕ) (holder : ℕ → ℕ) (holder-holds : (k : ℕ) → holds (holder k) k ≡ true) where
+module _ (holds : Placement) (modulus : ℕ) where
   -- the groups of invariants that stand by themselves
   abbrev pub Ground : List Event → State → Type 0
   Ground h s = record {
     locks : Locks holds modulus s;
     numbers : Numbers holds modulus s;
     decisions-ordered : Decisions holds modulus h s;
-    clocks : Clocks holds modulus holder holder-holds h s;
+    clocks : Clocks holds modulus h s;
     chains : Chains holds modulus h s;
   }
 
@@ -193,7 +193,7 @@ module _ (holds : Placement) (modulus : ℕ) (holder : ℕ → ℕ) (holder-hold
     ];
     latest = λ u cu wu v.
         let v′ = passes-now s t p c (commit-clock s u) v in
-        n .1 u (g .decisions-ordered .committed-decided u cu) (and-from (wrote s u k) (applied s u p) wu (visible-applied h s g u p k (c p) cu wu (ok .held) (v′ p (here-too (read-at s) t p)) (settled-after holds modulus holder holder-holds h s t k p a c (g .locks) (g .numbers) (g .clocks) ok))) v′;
+        n .1 u (g .decisions-ordered .committed-decided u cu) (and-from (wrote s u k) (applied s u p) wu (visible-applied h s g u p k (c p) cu wu (ok .held) (v′ p (here-too (read-at s) t p)) (settled-after holds modulus h s t k p a c (g .locks) (g .numbers) (g .clocks) ok))) v′;
   }
     where
       pass : ℕ → Bool

@@ -487,8 +487,8 @@ module _ (holds : Placement) where
     Accepted s (read-search t k p a c) = Reads s t k p a c × (kind s t ≡ Search)
     -- an update's answer must be the newest version there, else the read is overtaken and refused
     Accepted s (read-update t k p a c) = Reads s t k p a c × (kind s t ≡ Update) × (a .writer ≡ newest (chain s p k) .writer)
-    -- only open updates write and are offered
-    Accepted s (write t k v) = (status s t ≡ Open) × (kind s t ≡ Update)
+    -- only open updates write, keys that some node holds, and are offered
+    Accepted s (write t k v) = (status s t ≡ Open) × (kind s t ≡ Update) × ((p : ℕ) × (holds p k ≡ true))
     Accepted s (offer t) = (status s t ≡ Open) × (kind s t ≡ Update)
     -- p votes yes if nothing is overtaken; a write node gives the next number after its counter
     Accepted s (yes-write t p n) = record { vote : May-vote s t p; current : Current s t p; write-node : Write-node s t p; numbered : Next-number modulus (counter s p) t n }

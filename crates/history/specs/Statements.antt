@@ -117,9 +117,8 @@ History-stands holds modulus nodes h s = record {
   numbers-bounded : Numbers-within ((nodes + 1) * length (begun h) * modulus) s;
 }
 
--- Where every key has a holder, the nodes are numbered below their count and the modulus is not 0, every history stands.
+-- Where the nodes that hold keys are numbered below their count and the modulus is not 0, every history stands.
 abbrev pub Histories-stand : Type 0
 Histories-stand =
-    (holds : Placement) (modulus nodes : ℕ) → 0 < modulus →
-    ((k : ℕ) → (p : ℕ) × (holds p k ≡ true)) → ((p k : ℕ) → holds p k ≡ true → p < nodes) →
+    (holds : Placement) (modulus nodes : ℕ) → 0 < modulus → ((p k : ℕ) → holds p k ≡ true → p < nodes) →
     (h : List Event) (s : State) → Reachable holds modulus h s → History-stands holds modulus nodes h s

@@ -3,8 +3,7 @@ use mathlib.Core.Path.{_≡_}
 use mathlib.Core.Bool.{Bool, true, cond}
 use mathlib.Core.List.{List, [], _∷_, map}
 use Prim.Native.Nat.{ℕ}
-use lib.Dec.{eqb, ltb}
-use lib.ListN.{length, getD}
+use lib.ListN.{getD}
 use Rattle.std.specs.declared.option.Option.the-variants.{None}
 use Rattle.calls.specs.declared.answer.Answer.{Answer}
 use Rattle.calls.specs.Requests.{Request}
@@ -24,9 +23,9 @@ use Rattle.rules.specs.World.{World, is-begun, node, transaction, bit, noted, 
 use Rattle.rules.specs.Transcript as transcript
 use Rattle.rules.specs.Transcript.{Transcript, Told, told}
 
--- The placement of the protocol. It wants a holder for every number, so a number that is no key is held by node 0; nothing ever touches it.
+-- The placement, as the protocol has it. A number that is no key has no holder.
 abbrev pub placed : List ℕ → Placement
-placed placement p k = cond (ltb k (length placement)) (bit (getD placement k 0) p) (eqb p 0)
+placed placement p k = bit (getD placement k 0) p
 
 abbrev pub kind-of : Kind → protocol.Kind
 kind-of Search = protocol.Search
