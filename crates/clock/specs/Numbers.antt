@@ -3,9 +3,11 @@
 use mathlib.Core.Path.{_≡_}
 use mathlib.Core.Bool.{cond}
 use mathlib.Core.List.{List, [], _∷_}
-use Prim.Native.Nat.{ℕ, zero, suc, _+_, _%_, _<_, _≤_, max}
-use lib.Dec.{eqb}
+use Prim.Native.Nat.{ℕ, zero, suc, _+_, _%_, _^_, _<_, _≤_, max}
+use lib.Dec.{eqb, ltb}
 use lib.ListN.{length, getD}
+use Rattle.std.specs.declared.option.Option.{Option}
+use Rattle.std.specs.declared.option.Option.the-variants.{Some, None}
 
 -- Looking upwards from n, at so many numbers: the first that leaves t.
 unfoldable pub first-leaving : ℕ → ℕ → ℕ → ℕ → ℕ
@@ -24,7 +26,11 @@ highest (x ∷ xs) = max x (highest xs)
 abbrev pub stamp-number : ℕ → List ℕ → List ℕ → ℕ → ℕ
 stamp-number modulus numbers base t = first-leaving modulus t modulus (max (highest numbers) (highest base + 1))
 
--- Both say what they are: n is the least number with a property.
+-- A number that 32 bits hold, or nothing.
+abbrev pub if-fits : ℕ → Option ℕ
+if-fits n = cond (ltb n (2 ^ 32)) (Some n) None
+
+-- n is the least number with a property.
 pub record Least (P : ℕ → Type 0) (n : ℕ) : Type 0 where
   pub has : P n
   pub least : (m : ℕ) → P m → n ≤ m
@@ -38,7 +44,8 @@ Stamp modulus numbers base t n =
     (λ m. (m % modulus ≡ t) × ((i : ℕ) → i < length numbers → getD numbers i 0 ≤ m) × ((q : ℕ) → q < length base → getD base q 0 < m))
     n
 
--- For every modulus and every transaction below it.
+-- The next number and the stamp are what they are meant to be, for every modulus and every transaction below it (the
+-- first has the number 1).
 pub record Numbers-are-least : Type 0 where
   pub next : (modulus c t : ℕ) → t < modulus → Next modulus c t (next-number modulus c t)
-  pub stamp : (modulus : ℕ) (numbers base : List ℕ) (t : ℕ) → t < modulus → Stamp modulus numbers base t (stamp-number modulus numbers base t)
+  pub stamp : (modulus : ℕ) (numbers base : List ℕ) (t : ℕ) → 0 < t → t < modulus → Stamp modulus numbers base t (stamp-number modulus numbers base t)

@@ -61,86 +61,251 @@ may event x = allowed event (x .kind) (x .state)
 -- Its state changes.
 abbrev pub becomes : State → Transaction → Transaction
 becomes state x = record {
-  kind = x .kind; state = state; clock = x .clock; read = x .read; noted = x .noted; written = x .written;
-  polled = x .polled; voted = x .voted; refused = x .refused; engaged = x .engaged; numbers = x .numbers; votes = x .votes;
-  learned = x .learned; applied = x .applied; stamp = x .stamp; commit = x .commit }
+  kind = x .kind;
+  state = state;
+  clock = x .clock;
+  read = x .read;
+  noted = x .noted;
+  written = x .written;
+  polled = x .polled;
+  voted = x .voted;
+  refused = x .refused;
+  engaged = x .engaged;
+  numbers = x .numbers;
+  votes = x .votes;
+  learned = x .learned;
+  applied = x .applied;
+  stamp = x .stamp;
+  commit = x .commit;
+}
 
 -- It has read at p, with this clock after.
 abbrev pub has-read : ℕ → List ℕ → Transaction → Transaction
 has-read p clock x = record {
-  kind = x .kind; state = x .state; clock = clock; read = set (x .read) p true; noted = x .noted; written = x .written;
-  polled = x .polled; voted = x .voted; refused = x .refused; engaged = x .engaged; numbers = x .numbers; votes = x .votes;
-  learned = x .learned; applied = x .applied; stamp = x .stamp; commit = x .commit }
+  kind = x .kind;
+  state = x .state;
+  clock = clock;
+  read = set (x .read) p true;
+  noted = x .noted;
+  written = x .written;
+  polled = x .polled;
+  voted = x .voted;
+  refused = x .refused;
+  engaged = x .engaged;
+  numbers = x .numbers;
+  votes = x .votes;
+  learned = x .learned;
+  applied = x .applied;
+  stamp = x .stamp;
+  commit = x .commit;
+}
 
 -- An update has read k from a version by this writer. It notes the writer once a key.
 abbrev pub has-noted : ℕ → ℕ → Transaction → Transaction
 has-noted k writer x = record {
-  kind = x .kind; state = x .state; clock = x .clock; read = x .read;
-  noted = cond (noted x k) (x .noted) (set (x .noted) k (Some writer)); written = x .written; polled = x .polled;
-  voted = x .voted; refused = x .refused; engaged = x .engaged; numbers = x .numbers; votes = x .votes;
-  learned = x .learned; applied = x .applied; stamp = x .stamp; commit = x .commit }
+  kind = x .kind;
+  state = x .state;
+  clock = x .clock;
+  read = x .read;
+  noted = cond (noted x k) (x .noted) (set (x .noted) k (Some writer));
+  written = x .written;
+  polled = x .polled;
+  voted = x .voted;
+  refused = x .refused;
+  engaged = x .engaged;
+  numbers = x .numbers;
+  votes = x .votes;
+  learned = x .learned;
+  applied = x .applied;
+  stamp = x .stamp;
+  commit = x .commit;
+}
 
 -- It holds this value for k, in place of an earlier one.
 abbrev pub has-written : ℕ → ℕ → Transaction → Transaction
 has-written k value x = record {
-  kind = x .kind; state = x .state; clock = x .clock; read = x .read; noted = x .noted;
-  written = set (x .written) k (Some value); polled = x .polled; voted = x .voted; refused = x .refused;
-  engaged = x .engaged; numbers = x .numbers; votes = x .votes; learned = x .learned; applied = x .applied;
-  stamp = x .stamp; commit = x .commit }
+  kind = x .kind;
+  state = x .state;
+  clock = x .clock;
+  read = x .read;
+  noted = x .noted;
+  written = set (x .written) k (Some value);
+  polled = x .polled;
+  voted = x .voted;
+  refused = x .refused;
+  engaged = x .engaged;
+  numbers = x .numbers;
+  votes = x .votes;
+  learned = x .learned;
+  applied = x .applied;
+  stamp = x .stamp;
+  commit = x .commit;
+}
 
 -- It is offered, and polls the nodes of this byte.
 abbrev pub is-now-offered : ℕ → Transaction → Transaction
 is-now-offered polled x = record {
-  kind = x .kind; state = Offered; clock = x .clock; read = x .read; noted = x .noted; written = x .written;
-  polled = polled; voted = x .voted; refused = x .refused; engaged = x .engaged; numbers = x .numbers; votes = x .votes;
-  learned = x .learned; applied = x .applied; stamp = x .stamp; commit = x .commit }
+  kind = x .kind;
+  state = Offered;
+  clock = x .clock;
+  read = x .read;
+  noted = x .noted;
+  written = x .written;
+  polled = polled;
+  voted = x .voted;
+  refused = x .refused;
+  engaged = x .engaged;
+  numbers = x .numbers;
+  votes = x .votes;
+  learned = x .learned;
+  applied = x .applied;
+  stamp = x .stamp;
+  commit = x .commit;
+}
 
 -- Node p has voted no.
 abbrev pub has-no : ℕ → Transaction → Transaction
 has-no p x = record {
-  kind = x .kind; state = x .state; clock = x .clock; read = x .read; noted = x .noted; written = x .written;
-  polled = x .polled; voted = set (x .voted) p true; refused = true; engaged = x .engaged; numbers = x .numbers;
-  votes = x .votes; learned = x .learned; applied = x .applied; stamp = x .stamp; commit = x .commit }
+  kind = x .kind;
+  state = x .state;
+  clock = x .clock;
+  read = x .read;
+  noted = x .noted;
+  written = x .written;
+  polled = x .polled;
+  voted = set (x .voted) p true;
+  refused = true;
+  engaged = x .engaged;
+  numbers = x .numbers;
+  votes = x .votes;
+  learned = x .learned;
+  applied = x .applied;
+  stamp = x .stamp;
+  commit = x .commit;
+}
 
 -- Node p has voted yes; its vote carries its seen clock.
 abbrev pub has-yes : ℕ → List ℕ → Transaction → Transaction
 has-yes p seen x = record {
-  kind = x .kind; state = x .state; clock = x .clock; read = x .read; noted = x .noted; written = x .written;
-  polled = x .polled; voted = set (x .voted) p true; refused = x .refused; engaged = set (x .engaged) p true;
-  numbers = x .numbers; votes = join (x .votes) seen; learned = x .learned; applied = x .applied; stamp = x .stamp;
-  commit = x .commit }
+  kind = x .kind;
+  state = x .state;
+  clock = x .clock;
+  read = x .read;
+  noted = x .noted;
+  written = x .written;
+  polled = x .polled;
+  voted = set (x .voted) p true;
+  refused = x .refused;
+  engaged = set (x .engaged) p true;
+  numbers = x .numbers;
+  votes = join (x .votes) seen;
+  learned = x .learned;
+  applied = x .applied;
+  stamp = x .stamp;
+  commit = x .commit;
+}
 
 -- Its number at p.
 abbrev pub is-numbered : ℕ → ℕ → Transaction → Transaction
 is-numbered p number x = record {
-  kind = x .kind; state = x .state; clock = x .clock; read = x .read; noted = x .noted; written = x .written;
-  polled = x .polled; voted = x .voted; refused = x .refused; engaged = x .engaged; numbers = set (x .numbers) p number;
-  votes = x .votes; learned = x .learned; applied = x .applied; stamp = x .stamp; commit = x .commit }
+  kind = x .kind;
+  state = x .state;
+  clock = x .clock;
+  read = x .read;
+  noted = x .noted;
+  written = x .written;
+  polled = x .polled;
+  voted = x .voted;
+  refused = x .refused;
+  engaged = x .engaged;
+  numbers = set (x .numbers) p number;
+  votes = x .votes;
+  learned = x .learned;
+  applied = x .applied;
+  stamp = x .stamp;
+  commit = x .commit;
+}
 
 -- It is committed, with this stamp and this commit clock.
 abbrev pub is-committed : ℕ → List ℕ → Transaction → Transaction
 is-committed stamp commit x = record {
-  kind = x .kind; state = Committed; clock = x .clock; read = x .read; noted = x .noted; written = x .written;
-  polled = x .polled; voted = x .voted; refused = x .refused; engaged = x .engaged; numbers = x .numbers; votes = x .votes;
-  learned = x .learned; applied = x .applied; stamp = stamp; commit = commit }
+  kind = x .kind;
+  state = Committed;
+  clock = x .clock;
+  read = x .read;
+  noted = x .noted;
+  written = x .written;
+  polled = x .polled;
+  voted = x .voted;
+  refused = x .refused;
+  engaged = x .engaged;
+  numbers = x .numbers;
+  votes = x .votes;
+  learned = x .learned;
+  applied = x .applied;
+  stamp = stamp;
+  commit = commit;
+}
 
 -- Node p has learned its decision.
 abbrev pub is-learned : ℕ → Transaction → Transaction
 is-learned p x = record {
-  kind = x .kind; state = x .state; clock = x .clock; read = x .read; noted = x .noted; written = x .written;
-  polled = x .polled; voted = x .voted; refused = x .refused; engaged = x .engaged; numbers = x .numbers; votes = x .votes;
-  learned = set (x .learned) p true; applied = x .applied; stamp = x .stamp; commit = x .commit }
+  kind = x .kind;
+  state = x .state;
+  clock = x .clock;
+  read = x .read;
+  noted = x .noted;
+  written = x .written;
+  polled = x .polled;
+  voted = x .voted;
+  refused = x .refused;
+  engaged = x .engaged;
+  numbers = x .numbers;
+  votes = x .votes;
+  learned = set (x .learned) p true;
+  applied = x .applied;
+  stamp = x .stamp;
+  commit = x .commit;
+}
 
 -- Node p has released it.
 abbrev pub is-released : ℕ → Transaction → Transaction
 is-released p x = record {
-  kind = x .kind; state = x .state; clock = x .clock; read = x .read; noted = x .noted; written = x .written;
-  polled = x .polled; voted = x .voted; refused = x .refused; engaged = set (x .engaged) p false; numbers = x .numbers;
-  votes = x .votes; learned = x .learned; applied = x .applied; stamp = x .stamp; commit = x .commit }
+  kind = x .kind;
+  state = x .state;
+  clock = x .clock;
+  read = x .read;
+  noted = x .noted;
+  written = x .written;
+  polled = x .polled;
+  voted = x .voted;
+  refused = x .refused;
+  engaged = set (x .engaged) p false;
+  numbers = x .numbers;
+  votes = x .votes;
+  learned = x .learned;
+  applied = x .applied;
+  stamp = x .stamp;
+  commit = x .commit;
+}
 
 -- Node p has applied it.
 abbrev pub is-applied : ℕ → Transaction → Transaction
 is-applied p x = record {
-  kind = x .kind; state = x .state; clock = x .clock; read = x .read; noted = x .noted; written = x .written;
-  polled = x .polled; voted = x .voted; refused = x .refused; engaged = x .engaged; numbers = x .numbers; votes = x .votes;
-  learned = x .learned; applied = set (x .applied) p true; stamp = x .stamp; commit = x .commit }
+  kind = x .kind;
+  state = x .state;
+  clock = x .clock;
+  read = x .read;
+  noted = x .noted;
+  written = x .written;
+  polled = x .polled;
+  voted = x .voted;
+  refused = x .refused;
+  engaged = x .engaged;
+  numbers = x .numbers;
+  votes = x .votes;
+  learned = x .learned;
+  applied = set (x .applied) p true;
+  stamp = x .stamp;
+  commit = x .commit;
+}

@@ -21,9 +21,10 @@ use Rattle.rules.specs.Changes.{may, becomes, is-now-offered, is-committed}
 -- Begin: a new transaction, with the next number.
 abbrev pub begin-call : World → Kind → Outcome
 begin-call w kind =
-    check (ltb (length (w .transactions)) 255) w NumbersUsedUp
-    (Begun (length (w .transactions) + 1),
-    record { nodes = w .nodes; transactions = w .transactions ++ new-transaction kind ∷ []; placement = w .placement; store = w .store })
+    check (ltb (length (w .transactions)) 255) w NumbersUsedUp (
+      Begun (length (w .transactions) + 1),
+      record { nodes = w .nodes; transactions = w .transactions ++ new-transaction kind ∷ []; placement = w .placement; store = w .store },
+    )
 
 -- The byte of all holders of the keys that a transaction noted or wrote.
 unfoldable pub polled-byte : World → Transaction → ℕ

@@ -55,9 +55,10 @@ counted number n = record { counter = number; frontier = n .frontier; seen = n .
 
 -- A yes. At a write node the counter becomes the next number for t, which is t's number there and the answer; elsewhere the answer is 0.
 abbrev pub yes : World → ℕ → ℕ → Transaction → Meaning → Bool → Outcome
-yes w t p x store true =
-    (Yes (next-number 256 (node w p .counter) t),
-    with-store (with-node (with-transaction w t (is-numbered p (next-number 256 (node w p .counter) t) (has-yes p (node w p .seen) x))) p (counted (next-number 256 (node w p .counter) t) (node w p))) store)
+yes w t p x store true = (
+  Yes (next-number 256 (node w p .counter) t),
+  with-store (with-node (with-transaction w t (is-numbered p (next-number 256 (node w p .counter) t) (has-yes p (node w p .seen) x))) p (counted (next-number 256 (node w p .counter) t) (node w p))) store,
+)
 yes w t p x store false = (Yes 0, with-store (with-transaction w t (has-yes p (node w p .seen) x)) store)
 
 -- Places are set aside for the keys that t writes at p, in ascending order, for all or for none.

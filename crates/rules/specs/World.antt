@@ -50,9 +50,23 @@ new-node = record { counter = 0; frontier = 0; seen = zero-clock }
 -- A transaction as it begins: a zero clock, and no node read at.
 abbrev pub new-transaction : Kind → Transaction
 new-transaction kind = record {
-  kind = kind; state = Open; clock = zero-clock; read = no-marks; noted = replicate 64 None; written = replicate 64 None;
-  polled = 0; voted = no-marks; refused = false; engaged = no-marks; numbers = zero-clock; votes = zero-clock;
-  learned = no-marks; applied = no-marks; stamp = 0; commit = zero-clock }
+  kind = kind;
+  state = Open;
+  clock = zero-clock;
+  read = no-marks;
+  noted = replicate 64 None;
+  written = replicate 64 None;
+  polled = 0;
+  voted = no-marks;
+  refused = false;
+  engaged = no-marks;
+  numbers = zero-clock;
+  votes = zero-clock;
+  learned = no-marks;
+  applied = no-marks;
+  stamp = 0;
+  commit = zero-clock;
+}
 
 -- The nodes are numbered from 0, and so are the keys; the transactions are numbered from 1.
 abbrev pub is-node : World → ℕ → Bool
