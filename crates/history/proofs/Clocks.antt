@@ -8,7 +8,7 @@ use native.Mathlib.Nat.{le-trans}
 use native.Mathlib.Omega.{arith}
 use Rattle.std.proofs.shelf.Tests.{cases-eq}
 use Rattle.history.specs.Table.{Version, update-at, Member, Later}
-use Rattle.history.specs.Protocol.{Placement, Clock, join, Status, Open, Offered, Committed, Aborted, Finished, State, status, clock, read-at, noted, wrote, vote-clock, stamp, commit-clock, frontier, seen, engaged, applied, touched, conflict, becomes, releases, change-transaction, change-participation, Event, begin, read-own, read-search, read-update, write, offer, yes-write, yes-read, no-overtaken, no-place, commit, abort, cancel, learn-abort, learn-write, learn-read, apply, finish, Joined, Write-node, Reads, May-vote, next, Accepted}
+use Rattle.history.specs.Protocol.{Placement, Clock, join, Status, Open, Offered, Committed, Aborted, Finished, State, status, clock, read-at, noted, wrote, vote-clock, stamp, commit-clock, frontier, seen, engaged, applied, touched, conflict, becomes, releases, change-transaction, change-participation, Event, begin, read-own, read-search, read-update, write, offer, yes-write, yes-read, no-overtaken, no-place, commit, abort, cancel, learn-abort, learn-write, learn-read, apply, finish, Joined, Write-node, May-read, May-vote, next, Accepted}
 use Rattle.history.specs.History.{decisions}
 use Rattle.history.proofs.Basics.{update-at₂, same, other, other₂, slot, hit, drop, set-true, is-begun, frozen, clear, differ, not-committed, committed-before, committed-after, conflict-left, conflict-right, later-first, later-second}
 use Rattle.history.proofs.Locks.{Locks, all-engaged, Moves, begin-moves, offer-moves, abort-moves, cancel-moves, finish-moves}
@@ -116,7 +116,7 @@ module _ (holds : Placement) (modulus : ℕ) where
 
   -- the clock after a read at p is settled there
   pub settled-after : (h : List Event) (s : State) (t k p : ℕ) (a : Version) (c : Clock) → Locks holds modulus s → Numbers holds modulus s →
-      Clocks h s → Reads holds s t k p a c → c p ≤ frontier s p
+      Clocks h s → May-read holds s t k p a c → c p ≤ frontier s p
   settled-after h s t k p a c l nn i ok = elim (ok .joined .least p) [
     | inl e ↦ let g = ok .settled in omega arith
     | inr x ↦
@@ -127,7 +127,7 @@ module _ (holds : Placement) (modulus : ℕ) where
   ]
 
   read-read-settled : (h : List Event) (s : State) (t k p : ℕ) (a : Version) (c : Clock) → Locks holds modulus s → Numbers holds modulus s →
-      Clocks h s → Reads holds s t k p a c →
+      Clocks h s → May-read holds s t k p a c →
       (u q : ℕ) → update-at₂ (read-at s) t p true u q ≡ true → update-at (clock s) t c u q ≤ frontier s q
   read-read-settled h s t k p a c l nn i ok u q e = elim (cases-eq u t) [
     | inr d ↦ rw (slot (clock s) t c u q d) (i .read-settled u q (sym (other₂ (read-at s) t p true u q d) ∙ e))
@@ -225,7 +225,7 @@ module _ (holds : Placement) (modulus : ℕ) where
   }
 
   clocks-read-search : (h : List Event) (s : State) (t k p : ℕ) (a : Version) (c : Clock) → Locks holds modulus s → Numbers holds modulus s →
-      Clocks h s → Reads holds s t k p a c → Clocks h (next holds s (read-search t k p a c))
+      Clocks h s → May-read holds s t k p a c → Clocks h (next holds s (read-search t k p a c))
   clocks-read-search h s t k p a c l nn i ok = record {
     written-placed = i .written-placed;
     applied-write-node = i .applied-write-node;
@@ -251,7 +251,7 @@ module _ (holds : Placement) (modulus : ℕ) where
       (rw (dd .decided-committed u (later-second x u (decisions h) b)) refl) (rw (dd .decided-committed x (later-first x u (decisions h) b)) refl) e)
 
   clocks-read-update : (h : List Event) (s : State) (t k p : ℕ) (a : Version) (c : Clock) → Locks holds modulus s → Numbers holds modulus s →
-      Decisions holds modulus h s → Clocks h s → Reads holds s t k p a c → Clocks h (next holds s (read-update t k p a c))
+      Decisions holds modulus h s → Clocks h s → May-read holds s t k p a c → Clocks h (next holds s (read-update t k p a c))
   clocks-read-update h s t k p a c l nn dd i ok = record {
     written-placed = i .written-placed;
     applied-write-node = i .applied-write-node;

@@ -8,7 +8,7 @@ use native.Mathlib.Omega.{arith}
 use lib.Dec.{eqb}
 use Rattle.std.proofs.shelf.Tests.{cases-bool, cases-lt, or-cases}
 use Rattle.history.specs.Table.{Version, version, gets, scripts-conflict, selected, newest}
-use Rattle.history.specs.Protocol.{Placement, Clock, Committed, State, status, clock, read-at, noted, wrote, value, stamp, commit-clock, frontier, engaged, applied, chain, conflict, Event, Passes, Newest-passing, Write-node, Reads}
+use Rattle.history.specs.Protocol.{Placement, Clock, Committed, State, status, clock, read-at, noted, wrote, value, stamp, commit-clock, frontier, engaged, applied, chain, conflict, Event, Passes, Newest-passing, Write-node, May-read}
 use Rattle.history.specs.History.{script, decisions, applied-at}
 use Rattle.history.specs.Statements.{Writes-at, Yet-to-apply, Behind-exactly, First-read-current, Stamps-follow-decisions, Histories-stand}
 use Rattle.history.proofs.Basics.{clear, later-first, later-second}
@@ -87,13 +87,13 @@ module _ (holds : Placement) (modulus : ℕ) where
         | inr e ↦ e
       ]
 
-      passes : (k : ℕ) (a : Version) (c : Clock) → Reads holds s t k p a c → (x : Version) (l : List Version) → chain s p k ≡ x ∷ l →
+      passes : (k : ℕ) (a : Version) (c : Clock) → May-read holds s t k p a c → (x : Version) (l : List Version) → chain s p k ≡ x ∷ l →
           Passes (commit-clock s (x .writer)) (λ q. eqb p q || read-at s t q) c
       passes k a c ok x l e q r =
           let v = head-passes (λ u. wrote s u k && applied s u p) (λ u. value s u k) (decisions h) x l (sym (i .ground .chains .lists-applied p k (ok .held)) ∙ e) in
           ok .joined .takes (x .writer) (unread p) (both-applied (wrote s (x .writer) k) (applied s (x .writer) p) v) (λ z rz. absurd (clear (read-at s t z) rz (unread z))) q
 
-      go : (k : ℕ) (a : Version) (c : Clock) → Reads holds s t k p a c → (l : List Version) → chain s p k ≡ l →
+      go : (k : ℕ) (a : Version) (c : Clock) → May-read holds s t k p a c → (l : List Version) → chain s p k ≡ l →
           Newest-passing s (λ q. eqb p q || read-at s t q) c l a → a ≡ newest (chain s p k)
       go k a c ok [] e f = f ∙ ap newest (sym e)
       go k a c ok (x ∷ l) e (inl f) = f .1 ∙ ap newest (sym e)

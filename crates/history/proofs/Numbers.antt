@@ -6,13 +6,13 @@ use mathlib.Core.Bool.{true}
 use Prim.Native.Nat.{ℕ, _≤_, _<_, _%_}
 use native.Mathlib.Omega.{arith}
 use Rattle.history.specs.Table.{update-at}
-use Rattle.history.specs.Protocol.{Placement, Clock, Offered, Committed, State, fresh, status, wrote, stamp, counter, frontier, engaged, number, learned, applied, base-clock, Event, begin, read-own, read-search, read-update, write, offer, yes-write, yes-read, no-overtaken, no-place, commit, abort, cancel, learn-abort, learn-write, learn-read, apply, finish, Write-node, next, Commits, Accepted}
+use Rattle.history.specs.Protocol.{Placement, Clock, Offered, Committed, State, fresh, status, wrote, stamp, counter, frontier, engaged, number, learned, applied, base-clock, Event, begin, read-own, read-search, read-update, write, offer, yes-write, yes-read, no-overtaken, no-place, commit, abort, cancel, learn-abort, learn-write, learn-read, apply, finish, Write-node, next, May-commit, Accepted}
 use Rattle.history.proofs.Basics.{update-at₂, hit, drop, differ}
 use Rattle.history.proofs.Locks.{Locks}
 
 module _ (holds : Placement) (modulus : ℕ) where
   -- what a decision says of each slot of the commit clock
-  pub commit-slot : (s : State) (t n : ℕ) (c : Clock) → Commits holds modulus s t n c → (q : ℕ) →
+  pub commit-slot : (s : State) (t n : ℕ) (c : Clock) → May-commit holds modulus s t n c → (q : ℕ) →
       (Write-node holds s t q × (c q ≡ n) × (number s t q ≤ n) × (base-clock s t q < n)) ⊎ ((Write-node holds s t q → ⊥) × (c q ≡ base-clock s t q))
   commit-slot s t n c ok q = elim (ok .slots q) [
     | inl h ↦ let m = ok .stamped q (h .0) .has in inl (h .0, h .1, m .1 q (h .0), m .2 q)

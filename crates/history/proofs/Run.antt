@@ -237,6 +237,30 @@ run-accepted =
     ok₁₉)
     ok₂₀
 
+-- node 1 applies the first update, and the search reads there
+ok₂₂ : Accepted two-nodes 10 (state-after (learn-write 1 1 ∷ move-run)) (apply 1 1)
+ok₂₂ = record { engaged-there = refl; write-node = (1, refl, refl); learned-there = refl; least = λ u e w. grind arith }
+
+ok₂₃ : Accepted two-nodes 10 (state-after (apply 1 1 ∷ learn-write 1 1 ∷ move-run)) (read-search 2 1 1 (version 71 1) (slots 1 1))
+ok₂₃ = (
+  record {
+    open-now = refl;
+    unwritten = refl;
+    held = refl;
+    settled = lit≤ tt;
+    joined = record {
+      above = λ q. le-refl (slots 1 1 q);
+      takes = λ u r a v q. let e : u ≡ 1 = only u a in rw e (le-refl (slots 1 1 q));
+      least = λ q. inl refl;
+    };
+    answer = inl ((λ q e. le-refl (slots 1 1 q)), refl);
+  },
+  refl,
+)
+  where
+    only : (u : ℕ) → applied (state-after (apply 1 1 ∷ learn-write 1 1 ∷ move-run)) u 1 ≡ true → u ≡ 1
+    only u a = grind arith
+
 pub move-half-applied : Move-half-applied
 move-half-applied = record {
   accepted = run-accepted;
@@ -250,6 +274,12 @@ move-half-applied = record {
   behind = lit< tt;
   lacking = record { update = 1; committed = inr (inl refl); writes-there = (1, refl, refl); unapplied = λ m. m; not-above = lit≤ tt };
   put-off = λ k a c r. let e = r .settled in absurd (omega arith);
+  other-half =
+      then (read-search 2 1 1 (version 71 1) (slots 1 1))
+      (then (apply 1 1)
+      (then (learn-write 1 1) run-accepted (record { decided = refl; polled = (1, refl, refl); unlearned = refl }, (1, refl, refl)))
+      ok₂₂)
+      ok₂₃;
 }
   where
     head-value : List Version → ℕ

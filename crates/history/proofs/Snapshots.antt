@@ -9,7 +9,7 @@ use native.Mathlib.Omega.{arith}
 use lib.Dec.{eqb}
 use Rattle.std.proofs.shelf.Tests.{cases-eq, cases-bool, or-right, and-from}
 use Rattle.history.specs.Table.{Version, version, first-version, update-at, Member, Later, selected}
-use Rattle.history.specs.Protocol.{Placement, Clock, Kind, Update, Status, Unbegun, Open, Offered, Committed, Aborted, Finished, State, kind, status, clock, read-at, noted, noted-writer, wrote, value, commit-clock, frontier, engaged, applied, written-version, first-noted, becomes, change-transaction, Event, begin, read-own, read-search, read-update, write, offer, yes-write, yes-read, no-overtaken, no-place, commit, abort, cancel, learn-abort, learn-write, learn-read, apply, finish, Passes, Visible, Joined, Newest-passing, Reads, next, Accepted}
+use Rattle.history.specs.Protocol.{Placement, Clock, Kind, Update, Status, Unbegun, Open, Offered, Committed, Aborted, Finished, State, kind, status, clock, read-at, noted, noted-writer, wrote, value, commit-clock, frontier, engaged, applied, written-version, first-noted, becomes, change-transaction, Event, begin, read-own, read-search, read-update, write, offer, yes-write, yes-read, no-overtaken, no-place, commit, abort, cancel, learn-abort, learn-write, learn-read, apply, finish, Passes, Visible, Joined, Newest-passing, May-read, next, Accepted}
 use Rattle.history.specs.History.{decisions, Was-read}
 use Rattle.history.proofs.Basics.{update-at₂, same, other, other₂, slot, hit, set-true, is-begun, clear, one-kind, differ, not-committed, committed-before, committed-after, begun-after, later-first, later-asymmetric}
 use Rattle.history.proofs.Locks.{Locks, all-engaged, Moves, begin-moves, offer-moves, abort-moves, cancel-moves, finish-moves}
@@ -183,7 +183,7 @@ module _ (holds : Placement) (modulus : ℕ) where
       settle a b e n = grind arith
 
   read-snapshot : (h : List Event) (s : State) (t k p : ℕ) (a : Version) (c : Clock) → Ground h s → Within s →
-      Reads holds s t k p a c → Snapshot h (next holds s (read-search t k p a c)) t k p a
+      May-read holds s t k p a c → Snapshot h (next holds s (read-search t k p a c)) t k p a
   read-snapshot h s t k p a c g inside ok = record {
     at = read-there (read-at s) t p p ∙ here-too (read-at s) t p;
     held = ok .held;

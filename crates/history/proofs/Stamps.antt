@@ -8,7 +8,7 @@ use native.Mathlib.Omega.{arith}
 use lib.Dec.{eqb}
 use Rattle.std.proofs.shelf.Tests.{cases-eq, cases-lt}
 use Rattle.history.specs.Table.{Version, update-at}
-use Rattle.history.specs.Protocol.{Placement, Clock, join, Status, Open, Offered, Committed, Aborted, Finished, State, status, clock, read-at, wrote, vote-clock, stamp, commit-clock, seen, base-clock, becomes, sees, change-transaction, change-node, Event, begin, read-own, read-search, read-update, write, offer, yes-write, yes-read, no-overtaken, no-place, commit, abort, cancel, learn-abort, learn-write, learn-read, apply, finish, Joined, Write-node, Reads, next, Accepted}
+use Rattle.history.specs.Protocol.{Placement, Clock, join, Status, Open, Offered, Committed, Aborted, Finished, State, status, clock, read-at, wrote, vote-clock, stamp, commit-clock, seen, base-clock, becomes, sees, change-transaction, change-node, Event, begin, read-own, read-search, read-update, write, offer, yes-write, yes-read, no-overtaken, no-place, commit, abort, cancel, learn-abort, learn-write, learn-read, apply, finish, Joined, Write-node, May-read, next, Accepted}
 use Rattle.history.proofs.Basics.{update-at₂, same, other, other₂, slot, hit, set-true, clear, differ, not-committed, committed-after}
 use Rattle.history.proofs.Locks.{Locks, Moves, begin-moves, offer-moves, abort-moves, cancel-moves, finish-moves}
 use Rattle.history.proofs.Numbers.{commit-above}
@@ -117,7 +117,7 @@ module _ (holds : Placement) (modulus : ℕ) where
     read-held = i .read-held;
   }
 
-  stamps-read : (s : State) (t k p : ℕ) (a : Version) (c : Clock) → Stamps s → Reads holds s t k p a c → Stamps (next holds s (read-search t k p a c))
+  stamps-read : (s : State) (t k p : ℕ) (a : Version) (c : Clock) → Stamps s → May-read holds s t k p a c → Stamps (next holds s (read-search t k p a c))
   stamps-read s t k p a c i ok = record {
     clock-stamped = each-clock (Stamped s) (clock s) t c (i .clock-stamped) (read-stamped s t p c i (ok .joined));
     seen-stamped = i .seen-stamped;

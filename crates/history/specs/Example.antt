@@ -6,7 +6,7 @@ use mathlib.Core.Bool.{true, cond}
 use Prim.Native.Nat.{ℕ, _<_}
 use lib.Dec.{eqb}
 use Rattle.history.specs.Table.{Version, version, scripts-conflict}
-use Rattle.history.specs.Protocol.{Placement, Clock, Search, Update, State, fresh, Event, begin, read-search, read-update, write, offer, yes-write, commit, learn-write, apply, clock, frontier, chain, next, Reads, Reachable}
+use Rattle.history.specs.Protocol.{Placement, Clock, Search, Update, State, fresh, Event, begin, read-search, read-update, write, offer, yes-write, commit, learn-write, apply, clock, frontier, chain, next, May-read, Reachable}
 use Rattle.history.specs.History.{script, got, decisions}
 use Rattle.history.specs.Statements.{Order-answered, Yet-to-apply}
 
@@ -48,8 +48,12 @@ move-run =
     ∷ begin 1 Update
     ∷ []
 
+-- Then node 1 applies the first update too, and the search gets the other half of the move.
+abbrev pub whole-run : List Event
+whole-run = read-search 2 1 1 (version 71 1) (slots 1 1) ∷ apply 1 1 ∷ learn-write 1 1 ∷ move-run
+
 -- With the modulus 10 the run is accepted.  Its two committed updates conflict.  The search belongs between them and nowhere else.  At node 1
--- every read of it is put off, since its slot there is above the frontier: that node has yet to apply the first update.
+-- every read of it is put off, since its slot there is above the frontier: that node has yet to apply the first update.  Once it has, the read is accepted.
 abbrev pub Move-half-applied : Type 0
 Move-half-applied = record {
   accepted : Reachable two-nodes 10 move-run (state-after move-run);
@@ -62,5 +66,6 @@ Move-half-applied = record {
   not-last : Order-answered move-run (2 ∷ 3 ∷ 1 ∷ []) → ⊥;
   behind : frontier (state-after move-run) 1 < clock (state-after move-run) 2 1;
   lacking : Yet-to-apply two-nodes move-run (state-after move-run) 2 1;
-  put-off : (k : ℕ) (a : Version) (c : Clock) → Reads two-nodes (state-after move-run) 2 k 1 a c → ⊥;
+  put-off : (k : ℕ) (a : Version) (c : Clock) → May-read two-nodes (state-after move-run) 2 k 1 a c → ⊥;
+  other-half : Reachable two-nodes 10 whole-run (state-after whole-run);
 }

@@ -376,8 +376,8 @@ module _ (holds : Placement) where
 
   -- An open transaction t that has not written k gets the answer a to its read of k at p, and its clock becomes c: p holds k, the slot
   -- of p is not above p's frontier, and a is the newest version there that passes after the read.
-  abbrev pub Reads : State → ℕ → ℕ → ℕ → Version → Clock → Type 0
-  Reads s t k p a c = record {
+  abbrev pub May-read : State → ℕ → ℕ → ℕ → Version → Clock → Type 0
+  May-read s t k p a c = record {
     open-now : status s t ≡ Open;
     unwritten : wrote s t k ≡ false;
     held : holds p k ≡ true;
@@ -462,17 +462,17 @@ module _ (holds : Placement) where
   module _ (modulus : ℕ) where
     -- The stamp of t: the least number that leaves t, is not below any of t's numbers at its write nodes, and is above every slot of
     -- the base clock.
-    abbrev pub Stamp : State → ℕ → ℕ → Type 0
-    Stamp s t n = Least (λ m. (m % modulus ≡ t) × ((p : ℕ) → Write-node s t p → number s t p ≤ m) × ((q : ℕ) → base-clock s t q < m)) n
+    abbrev pub Least-stamp : State → ℕ → ℕ → Type 0
+    Least-stamp s t n = Least (λ m. (m % modulus ≡ t) × ((p : ℕ) → Write-node s t p → number s t p ≤ m) × ((q : ℕ) → base-clock s t q < m)) n
 
     -- t is decided to commit with the stamp n and the commit clock c: no node voted no, and all that it polls voted.  An update without
     -- write nodes has the stamp 0.  The commit clock is the base clock with the stamp in the slots of the write nodes.
-    abbrev pub Commits : State → ℕ → ℕ → Clock → Type 0
-    Commits s t n c = record {
+    abbrev pub May-commit : State → ℕ → ℕ → Clock → Type 0
+    May-commit s t n c = record {
       offered : status s t ≡ Offered;
       agreed : refused s t ≡ false;
       complete : (p : ℕ) → Polled s t p → voted s t p ≡ true;
-      stamped : (p : ℕ) → Write-node s t p → Stamp s t n;
+      stamped : (p : ℕ) → Write-node s t p → Least-stamp s t n;
       unwritten : ((p : ℕ) → Write-node s t p → ⊥) → n ≡ 0;
       slots : (q : ℕ) → (Write-node s t q × (c q ≡ n)) ⊎ ((Write-node s t q → ⊥) × (c q ≡ base-clock s t q));
     }
@@ -484,9 +484,9 @@ module _ (holds : Placement) where
     -- where t has written k, its own value with its own number is the answer
     Accepted s (read-own t k a) = (status s t ≡ Open) × (wrote s t k ≡ true) × (a ≡ written-version s k t)
     -- a search reads what it may read
-    Accepted s (read-search t k p a c) = Reads s t k p a c × (kind s t ≡ Search)
+    Accepted s (read-search t k p a c) = May-read s t k p a c × (kind s t ≡ Search)
     -- an update's answer must be the newest version there, else the read is overtaken and refused
-    Accepted s (read-update t k p a c) = Reads s t k p a c × (kind s t ≡ Update) × (a .writer ≡ newest (chain s p k) .writer)
+    Accepted s (read-update t k p a c) = May-read s t k p a c × (kind s t ≡ Update) × (a .writer ≡ newest (chain s p k) .writer)
     -- only open updates write, keys that some node holds, and are offered
     Accepted s (write t k v) = (status s t ≡ Open) × (kind s t ≡ Update) × ((p : ℕ) × (holds p k ≡ true))
     Accepted s (offer t) = (status s t ≡ Open) × (kind s t ≡ Update)
@@ -498,7 +498,7 @@ module _ (holds : Placement) where
     -- or, with nothing overtaken, with a written key that it holds; whether the store has a place for it is the store's matter
     Accepted s (no-place t p k) = May-vote s t p × Current s t p × (wrote s t k ≡ true) × (holds p k ≡ true)
     -- an offered update is decided to commit, or to abort where a node voted no
-    Accepted s (commit t n c) = Commits s t n c
+    Accepted s (commit t n c) = May-commit s t n c
     Accepted s (abort t) = (status s t ≡ Offered) × (refused s t ≡ true)
     -- an update that is not decided can be cancelled
     Accepted s (cancel t) = (kind s t ≡ Update) × ((status s t ≡ Open) ⊎ (status s t ≡ Offered))

@@ -7,7 +7,7 @@ use mathlib.Core.Bool.{Bool, true}
 use Prim.Native.Nat.{ℕ, _+_, _*_, _≤_, _<_}
 use lib.ListN.{length}
 use Rattle.history.specs.Table.{Version, Table, first-table, after, puts, scripts-conflict, play-all, All-answered, Member, listed, Later, selected, newest}
-use Rattle.history.specs.Protocol.{Placement, Committed, Clock, State, Event, status, clock, vote-clock, stamp, commit-clock, counter, frontier, seen, number, chain, Reads, Reachable}
+use Rattle.history.specs.Protocol.{Placement, Committed, Clock, State, Event, status, clock, vote-clock, stamp, commit-clock, counter, frontier, seen, number, chain, May-read, Reachable}
 use Rattle.history.specs.History.{script, got, decisions, begun, applied-at, Was-read}
 
 -- On the one table, what a transaction writes stays if it is committed.
@@ -83,7 +83,7 @@ newest-applied h p k = newest (writers h k (applied-at h p))
 abbrev pub First-read-current : Placement → List Event → State → Type 0
 First-read-current holds h s =
     (t p : ℕ) → ((k q : ℕ) (a : Version) → Was-read h t k q a → ⊥) →
-    (clock s t p ≤ frontier s p) × ((k : ℕ) (a : Version) (c : Clock) → Reads holds s t k p a c → a ≡ newest-applied h p k)
+    (clock s t p ≤ frontier s p) × ((k : ℕ) (a : Version) (c : Clock) → May-read holds s t k p a c → a ≡ newest-applied h p k)
 
 -- 6. Of two conflicting committed updates that both wrote, the one decided first has the lower stamp.
 abbrev pub Stamps-follow-decisions : List Event → State → Type 0
