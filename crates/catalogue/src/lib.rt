@@ -1,0 +1,3 @@
+//! The catalogue: ten calls over any version store.
+
+mod table;
