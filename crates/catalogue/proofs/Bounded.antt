@@ -8,13 +8,13 @@ use native.Mathlib.Omega.{arith}
 use lib.ListN.{length, getD, set, replicate}
 use Rattle.std.proofs.shelf.Lists.{getD-set-same, getD-set-other, set-past}
 use Rattle.std.proofs.shelf.Tests.{cases-eq, cases-lt}
-use Rattle.clock.specs.Clocks.{slot}
+use Rattle.clock.specs.Clocks.{slot, marked}
 use Rattle.rules.specs.declared.records.Kind.{Kind}
 use Rattle.rules.specs.declared.records.Kind.the-variants.{Search}
 use Rattle.rules.specs.declared.records.Node.{Node}
 use Rattle.rules.specs.declared.records.Transaction.{Transaction}
 use Rattle.rules.specs.World.{zero-clock, new-node, new-transaction}
-use Rattle.catalogue.specs.Bounds.{raised-by, raised, most, Clock-within, Collected-within, Decided-within, Transaction-within, Node-within, Nodes-within, All-collected-within, All-decided-within}
+use Rattle.catalogue.specs.Bounds.{count-below, is-committed, raised-by, raised, most, Clock-within, Collected-within, Decided-within, Transaction-within, Node-within, Nodes-within, All-collected-within, All-decided-within, Keeps, Raises}
 
 abbrev blank : Transaction
 blank = new-transaction Search
@@ -124,3 +124,15 @@ module _ (xs : List Transaction) (i : ℕ) (y : Transaction) (inside : i < lengt
 
   pub raised-most : raised-by y ≡ raised-by (getD xs i blank) + 1 → most (set xs i y) ≡ most xs + 256
   raised-most once = let sum = raised-set xs i y blank inside in omega arith
+
+-- A record with the same votes, the same numbers and the same decision as before.
+pub keeps-same : (x y : Transaction) → y .clock ≡ x .clock → y .numbers ≡ x .numbers → y .votes ≡ x .votes → y .commit ≡ x .commit → y .stamp ≡ x .stamp → y .voted ≡ x .voted → is-committed (y .state) ≡ is-committed (x .state) → Keeps x y
+unfolding raised-by
+keeps-same x y clock numbers votes commit stamp voted state =
+    record {
+      same = ap (λ row. count-below 8 (marked row) + cond (is-committed (y .state)) 1 0) voted ∙ ap (λ b. count-below 8 (marked (x .voted)) + cond b 1 0) state;
+      within = λ b (w : Transaction-within b x). (
+        (subst (Clock-within b) (sym clock) (w .0 .0), subst (Clock-within b) (sym numbers) (w .0 .1), subst (Clock-within b) (sym votes) (w .0 .2)),
+        (subst (Clock-within b) (sym commit) (w .1 .0), subst (λ (n : ℕ). n ≤ b) (sym stamp) (w .1 .1), subst (λ (row : List Bool). length row ≡ 8) (sym voted) (w .1 .2)),
+      );
+    }

@@ -8,6 +8,8 @@ use Rattle.clock.specs.Clocks.{slot, marked}
 use Rattle.rules.specs.declared.records.Kind.the-variants.{Search}
 use Rattle.rules.specs.declared.records.State.{State}
 use Rattle.rules.specs.declared.records.State.the-variants.{Open, Offered, Committed, Aborted, Finished}
+use Rattle.rules.specs.declared.records.Event.{Event}
+use Rattle.rules.specs.declared.records.Event.the-variants.{Read, Write, Offer, Prepare, Decide, Cancel, Learn, Finish}
 use Rattle.rules.specs.declared.records.Node.{Node}
 use Rattle.rules.specs.declared.records.Transaction.{Transaction}
 use Rattle.rules.specs.World.{new-node, new-transaction}
@@ -23,6 +25,17 @@ is-committed Offered = false
 is-committed Committed = true
 is-committed Aborted = false
 is-committed Finished = false
+
+-- Every call but learn is for transactions that are not decided.
+abbrev pub for-undecided : Event → Bool
+for-undecided Read = true
+for-undecided Write = true
+for-undecided Offer = true
+for-undecided Prepare = true
+for-undecided Decide = true
+for-undecided Cancel = true
+for-undecided Learn = false
+for-undecided Finish = true
 
 -- How often a transaction can have raised a number: once for each vote, and once by its commit.
 unfoldable pub raised-by : Transaction → ℕ

@@ -1,3 +1,5 @@
 //! The catalogue: ten calls over any version store.
 
+mod catalogue;
+mod changes;
 mod table;

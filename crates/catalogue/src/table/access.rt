@@ -15,10 +15,12 @@ ghost use Rattle.rules.specs.Steps.{can-make, made-world};
 ghost use Rattle.catalogue.specs.Bounds.{raised-by, most, Transaction-within, Node-within, Keeps, Raises};
 ghost use Rattle.catalogue.specs.Tables.{world-of};
 use super::Table;
+use crate::changes::new_transaction;
 use calls::refusal::Refusal;
 use calls::sizes::KeyNumber;
 use calls::sizes::NodeNumber;
 use calls::sizes::TransactionNumber;
+use rules::records::Kind;
 use rules::records::Node;
 use rules::records::Transaction;
 
@@ -132,14 +134,12 @@ impl Table {
     }
 
     /// Adds a new transaction, for which there must be a number.
-    pub(crate) fn push(&mut self, x: Transaction)
-        requires room { ⌜ length (vec-items (now self .transactions)) < 255 ⌝ }
-        requires unraised { ⌜ raised-by x ≡ 0 ⌝ }
-        requires within { ⌜ Transaction-within 0 x ⌝ }
-        ensures transactions { λ _. ⌜ vec-items (now (self .exit) .transactions) ≡ vec-items (now (self .entry) .transactions) ++ x ∷ [] ⌝ }
+    pub(crate) fn begin(&mut self, kind: Kind)
+        requires { ⌜ length (vec-items (now self .transactions)) < 255 ⌝ }
+        ensures transactions { λ _. ⌜ vec-items (now (self .exit) .transactions) ≡ vec-items (now (self .entry) .transactions) ++ new-transaction kind ∷ [] ⌝ }
         ensures nodes { λ _. ⌜ vec-items (now (self .exit) .nodes) ≡ vec-items (now (self .entry) .nodes) ⌝ }
         ensures placement { λ _. ⌜ vec-items (now (self .exit) .placement) ≡ vec-items (now (self .entry) .placement) ⌝ }
     {
-        self.transactions.push_reserved(x);
+        self.transactions.push_reserved(new_transaction(kind));
     }
 }

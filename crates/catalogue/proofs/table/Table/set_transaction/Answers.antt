@@ -17,8 +17,25 @@ ghost-self c =
     let at : c .args .t - 1 ≡ i = omega arith in
     let inside : i < length xs = omega arith in
     let grows : raised-by (getD xs i (new-transaction Search)) ≤ raised-by (c .args .x) = subst (λ (j : ℕ). raised-by (getD xs j (new-transaction Search)) ≤ raised-by (c .args .x)) at (c .pre .grows) in
-    let within : Transaction-within (most (set xs i (c .args .x))) (c .args .x) = subst (λ (j : ℕ). Transaction-within (most (set xs j (c .args .x))) (c .args .x)) at (c .pre .within) in
-    (table .«some_nodes», (table .«few_nodes», (table .«few_keys», (table .room, (table .«few_transactions»,
-    (nodes-set (table .nodes .items) xs i (c .args .x) inside grows within (table .«nodes_within»),
-    (collected-set (table .nodes .items) xs i (c .args .x) inside grows within (table .«collected_within»),
-    (decided-set (table .nodes .items) xs i (c .args .x) inside grows within (table .«decided_within»), tt))))))))
+    let within : Transaction-within (most (set xs i (c .args .x))) (c .args .x) = subst (λ (j : ℕ). Transaction-within (most (set xs j (c .args .x))) (c .args .x)) at (c .pre .within) in (
+      table .«some_nodes»,
+      (
+        table .«few_nodes»,
+        (
+          table .«few_keys»,
+          (
+            table .room,
+            (
+              table .«few_transactions»,
+              (
+                nodes-set (table .nodes .items) xs i (c .args .x) inside grows within (table .«nodes_within»),
+                (
+                  collected-set (table .nodes .items) xs i (c .args .x) inside grows within (table .«collected_within»),
+                  (decided-set (table .nodes .items) xs i (c .args .x) inside grows within (table .«decided_within»), tt),
+                ),
+              ),
+            ),
+          ),
+        ),
+      ),
+    )

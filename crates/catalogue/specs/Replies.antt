@@ -1,0 +1,27 @@
+-- The answers that the results of the calls stand for.
+use Prim.Native.Nat.{ℕ}
+use Rattle.std.specs.declared.result.Result.{Result}
+use Rattle.std.specs.declared.result.Result.the-variants.{Ok, Err}
+use Rattle.calls.specs.declared.answer.Answer.{Answer}
+use Rattle.calls.specs.declared.answer.Answer.the-variants.{Done, Begun, Found, Polled, Applied, Refused}
+use Rattle.calls.specs.declared.refusal.Refusal.{Refusal}
+
+abbrev pub begun : Result ℕ Refusal → Answer
+begun (Ok t) = Begun t
+begun (Err refusal) = Refused refusal
+
+abbrev pub done : Result (Unit {0}) Refusal → Answer
+done (Ok unit) = Done
+done (Err refusal) = Refused refusal
+
+abbrev pub found : Result (ℕ × ℕ) Refusal → Answer
+found (Ok version) = Found (version .0) (version .1)
+found (Err refusal) = Refused refusal
+
+abbrev pub polled : Result ℕ Refusal → Answer
+polled (Ok nodes) = Polled nodes
+polled (Err refusal) = Refused refusal
+
+abbrev pub applied : Result ℕ Refusal → Answer
+applied (Ok t) = Applied t
+applied (Err refusal) = Refused refusal

@@ -1,0 +1,13 @@
+//! A catalogue.
+
+use crate::table::Table;
+use store::VersionStore;
+
+pub mod simple;
+
+/// A catalogue over a version store.
+#[derive(Drop)]
+pub struct Catalogue<S: VersionStore> {
+    pub(crate) table: Table,
+    pub(crate) store: S,
+}
