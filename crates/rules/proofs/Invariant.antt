@@ -12,7 +12,7 @@ use Rattle.clock.specs.Clocks.{slot, marked}
 use Rattle.store.specs.Model.{FreeRule, first-version}
 use Rattle.history.specs.Protocol.{Event, Accepted, next, Reachable}
 use Rattle.history.specs.History.{mark}
-use Rattle.rules.specs.declared.records.State.the-variants.{Offered}
+use Rattle.rules.specs.declared.records.State.the-variants.{Open, Offered}
 use Rattle.rules.specs.declared.records.Transaction.{Transaction}
 use Rattle.rules.specs.World.{World, is-begun, holds, node, transaction, bit, noted, wrote, is-write-node}
 use Rattle.rules.specs.Steps.{step}
@@ -62,14 +62,18 @@ pub record Invariant (w : World) : Type 0 where
   pub first-last : (p k : ℕ) → without-last (w .store p k .versions) ++ first-version ∷ [] ≡ w .store p k .versions
   -- a place is set aside for each engaged update that writes there
   pub places : (p k : ℕ) → w .store p k .aside ≡ engaged-writers w p k (w .transactions)
+  -- a transaction is engaged nowhere while it is open
+  pub open-idle : (t p : ℕ) → is-begun w t ≡ true → transaction w t .state ≡ Open → marked (transaction w t .engaged) p ≡ false
+  -- a node has voted on every transaction that is engaged there
+  pub engaged-voted : (t p : ℕ) → is-begun w t ≡ true → marked (transaction w t .engaged) p ≡ true → marked (transaction w t .voted) p ≡ true
 
 -- What one call comes to: nothing, or an event of the protocol.
 abbrev pub Refines : FreeRule → World → Request → Type 0
 Refines free w request =
     ((step free w request .1 ≡ w) × (told request (step free w request .0) ≡ transcript.nothing))
     ⊎ ((e : Event) × Accepted (placed (w .placement)) 256 (view w) e
-    × (view (step free w request .1) ≡ next (placed (w .placement)) (view w) e)
-    × (told request (step free w request .0) ≡ told-by (mark e)))
+      × (view (step free w request .1) ≡ next (placed (w .placement)) (view w) e)
+      × (told request (step free w request .0) ≡ told-by (mark e)))
 
 -- The lemma that each call owes: the placement and the number of nodes stay, the invariant is kept, and the call refines the protocol.
 pub record Good-step (free : FreeRule) (w : World) (request : Request) : Type 0 where

@@ -1,2 +1,11 @@
 pub mod View
 pub mod Invariant
+pub mod Checks
+pub mod Views
+pub mod Keeping
+pub mod States
+pub mod Writes
+pub mod Begins
+pub mod Start
+pub mod Joins
+pub mod Reading
