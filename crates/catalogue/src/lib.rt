@@ -2,4 +2,5 @@
 
 mod catalogue;
 mod changes;
+mod keys;
 mod table;
