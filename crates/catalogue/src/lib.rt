@@ -3,4 +3,5 @@
 mod catalogue;
 mod changes;
 mod keys;
+pub mod make;
 mod table;

@@ -6,3 +6,5 @@ pub mod Deciding
 pub mod Applying
 pub mod Steps
 pub mod Transcript
+pub mod Cases
+pub mod Promises
