@@ -1,6 +1,6 @@
 //! The catalogue: ten calls over any version store.
 
-mod catalogue;
+pub mod catalogue;
 mod changes;
 mod keys;
 pub mod make;

@@ -23,8 +23,32 @@ use calls::sizes::TransactionNumber;
 use rules::records::Kind;
 use rules::records::Node;
 use rules::records::Transaction;
+use std::alloc::AllocError;
+use std::alloc::Global;
 
 impl Table {
+    /// The tables of a new catalogue. All their memory is taken here.
+    pub(crate) fn make(heap: Global, count: u8, placement: &[u8]) -> Result<Table, AllocError>
+        requires nodes { ⌜ 1 ≤ count ⌝ ∗ ⌜ count ≤ 8 ⌝ }
+        requires keys { ⌜ length (now placement) ≤ 64 ⌝ }
+        ensures { λ r. ⌜ made r (λ table. world-of table fresh ≡ made-world count (now (placement .entry))) ⌝ }
+    {
+        let node = Node {
+            counter: 0,
+            frontier: 0,
+            seen: [0; 8],
+        };
+        let mut nodes = Vec::new(heap);
+        nodes.resize(usize::from(count), node)?;
+        let transactions = Vec::with_capacity(heap, 255)?;
+        let placement = Vec::from_slice(heap, placement)?;
+        Ok(Table {
+            nodes,
+            transactions,
+            placement,
+        })
+    }
+
     /// The record of a transaction.
     pub(crate) fn transaction(&self, t: TransactionNumber) -> Result<Transaction, Refusal>
         ensures value { λ r. ⌜ r ≡ cond (is-begun (world-of (now (self .entry)) fresh) t) (Ok (transaction (world-of (now (self .entry)) fresh) t)) (Err NoSuchTransaction) ⌝ }
