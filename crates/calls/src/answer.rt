@@ -22,7 +22,7 @@ pub enum Answer {
     Polled {
         nodes: u8,
     },
-    /// A node votes yes, and gives the update this number, or 0 where the update writes nothing.
+    /// A node votes yes, and gives the update this number, or 0 where the update writes no key that the node holds.
     Yes {
         number: Stamp,
     },

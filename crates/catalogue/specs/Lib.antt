@@ -2,3 +2,4 @@ pub mod Bounds
 pub mod Tables
 pub mod Making
 pub mod Replies
+pub mod Runs

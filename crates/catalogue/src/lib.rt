@@ -4,4 +4,5 @@ pub mod catalogue;
 mod changes;
 mod keys;
 pub mod make;
+pub mod perform;
 mod table;

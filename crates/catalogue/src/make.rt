@@ -16,6 +16,7 @@ use crate::table::Table;
 use calls::refusal::Refusal;
 use std::alloc::AllocError;
 use std::alloc::Global;
+use std::alloc::Refused;
 use store::VersionStore;
 
 /// Why a catalogue was not made.
@@ -33,6 +34,14 @@ pub impl From<AllocError> for MakeError as MakeErrorFromAlloc {
     ghost converts = { λ _ r. r ≡ OutOfMemory };
 
     fn from(_error: AllocError) -> MakeError {
+        MakeError::OutOfMemory
+    }
+}
+
+pub impl<T: Drop> From<Refused<T>> for MakeError as MakeErrorFromRefused {
+    ghost converts = { λ _ r. r ≡ OutOfMemory };
+
+    fn from(_refused: Refused<T>) -> MakeError {
         MakeError::OutOfMemory
     }
 }

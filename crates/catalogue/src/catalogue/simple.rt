@@ -17,7 +17,8 @@ use store::VersionStore;
 impl<S: VersionStore> Catalogue<S> {
     /// Opens a search or an update, and gives its number.
     pub(crate) fn begin(&mut self, kind: Kind) -> Result<TransactionNumber, Refusal>
-        ensures { λ r. ⌜ (begun r, world-of (now (self .exit) .table) (S·VersionStore .meaning (now (self .exit) .store))) ≡ begin-call (world-of (now (self .entry) .table) (S·VersionStore .meaning (now (self .entry) .store))) kind ⌝ }
+        ensures step { λ r. ⌜ (begun r, world-of (now (self .exit) .table) (S·VersionStore .meaning (now (self .exit) .store))) ≡ begin-call (world-of (now (self .entry) .table) (S·VersionStore .meaning (now (self .entry) .store))) kind ⌝ }
+        ensures rule { λ r. ⌜ S·VersionStore .free (now (self .exit) .store) ≡ S·VersionStore .free (now (self .entry) .store) ⌝ }
     {
         let before = self.table.begun();
         if before >= 255 {
@@ -29,7 +30,8 @@ impl<S: VersionStore> Catalogue<S> {
 
     /// Aborts an open or offered update.
     pub(crate) fn cancel(&mut self, t: TransactionNumber) -> Result<(), Refusal>
-        ensures { λ r. ⌜ (done r, world-of (now (self .exit) .table) (S·VersionStore .meaning (now (self .exit) .store))) ≡ cancel-call (world-of (now (self .entry) .table) (S·VersionStore .meaning (now (self .entry) .store))) t ⌝ }
+        ensures step { λ r. ⌜ (done r, world-of (now (self .exit) .table) (S·VersionStore .meaning (now (self .exit) .store))) ≡ cancel-call (world-of (now (self .entry) .table) (S·VersionStore .meaning (now (self .entry) .store))) t ⌝ }
+        ensures rule { λ r. ⌜ S·VersionStore .free (now (self .exit) .store) ≡ S·VersionStore .free (now (self .entry) .store) ⌝ }
     {
         let x = self.table.transaction(t)?;
         allow(&x, Event::Cancel)?;
@@ -39,7 +41,8 @@ impl<S: VersionStore> Catalogue<S> {
 
     /// Ends a search.
     pub(crate) fn finish(&mut self, t: TransactionNumber) -> Result<(), Refusal>
-        ensures { λ r. ⌜ (done r, world-of (now (self .exit) .table) (S·VersionStore .meaning (now (self .exit) .store))) ≡ finish-call (world-of (now (self .entry) .table) (S·VersionStore .meaning (now (self .entry) .store))) t ⌝ }
+        ensures step { λ r. ⌜ (done r, world-of (now (self .exit) .table) (S·VersionStore .meaning (now (self .exit) .store))) ≡ finish-call (world-of (now (self .entry) .table) (S·VersionStore .meaning (now (self .entry) .store))) t ⌝ }
+        ensures rule { λ r. ⌜ S·VersionStore .free (now (self .exit) .store) ≡ S·VersionStore .free (now (self .entry) .store) ⌝ }
     {
         let x = self.table.transaction(t)?;
         allow(&x, Event::Finish)?;
