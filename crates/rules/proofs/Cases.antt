@@ -13,9 +13,4 @@ use Rattle.rules.specs.Cases.{Cases-hold}
 
 pub cases-hold : Cases-hold
 unfolding passes first-leaving asked first-refused written-at is-write-node clock-after newest-passing busy overtaken-key polled-byte all-voted stamped least-waiting put-all answers-of world-after
-cases-hold =
-    (refl, (refl, (refl, (refl, (refl, (refl, (
-    (refl, refl, tt), (
-    (refl, refl, (refl, (refl, tt))), (
-    (refl, refl, (refl, (refl, (refl, tt)))),
-    tt)))))))))
+cases-hold = (refl, (refl, (refl, (refl, (refl, (refl, ((refl, refl, tt), ((refl, refl, (refl, (refl, tt))), ((refl, refl, (refl, (refl, (refl, tt)))), tt)))))))))

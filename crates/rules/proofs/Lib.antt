@@ -22,6 +22,7 @@ pub mod Cases
 pub mod Told
 pub mod Tied
 pub mod Readers
+pub mod Searches
 pub mod Promises
 pub mod Unchanged
 pub mod Good

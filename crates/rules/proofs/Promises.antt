@@ -1,29 +1,29 @@
 -- The promises follow from what holds of histories.
 use mathlib.Core.Path.{_≡_, refl, sym, ap, _∙_, subst}
-use mathlib.Core.Bool.{Bool, true, false, cond, _&&_, _||_}
+use mathlib.Core.Bool.{Bool, true, false, cond, _&&_}
 use mathlib.Core.List.{List, [], _∷_, _++_, map, Perm}
 use mathlib.Core.Logic.{_⊎_, inl, inr, ⊎-elim}
 use Prim.Native.Nat.{ℕ, zero, suc, _+_, _-_, _*_, _<_, _≤_}
 use native.Mathlib.Omega.{arith}
-use lib.Dec.{eqb, leb, ltb, lit<}
+use lib.Dec.{eqb, leb, lit<}
 use lib.ListN.{length, getD, set}
-use Rattle.std.proofs.shelf.Tests.{cases-bool, both-ways, cond-true, cond-false, leb-false, lt-leb, and-from, ltb-true, lt-ltb, eqb-true, eq-eqb, and-parts}
+use Rattle.std.proofs.shelf.Tests.{cases-bool, both-ways, cond-true, leb-false, lt-leb, and-from, ltb-true, lt-ltb, eqb-true}
 use Rattle.std.proofs.shelf.Ways.{tells}
 use Rattle.std.proofs.shelf.Lists.{getD-set-same}
 use Rattle.std.specs.declared.option.Option.{Option}
 use Rattle.std.specs.declared.option.Option.the-variants.{Some, None}
 use Rattle.calls.specs.declared.answer.Answer.{Answer}
-use Rattle.calls.specs.declared.answer.Answer.the-variants.{Found, Refused}
+use Rattle.calls.specs.declared.answer.Answer.the-variants.{Done, Found, Refused}
 use Rattle.calls.specs.declared.refusal.Refusal.{Refusal}
 use Rattle.calls.specs.declared.refusal.Refusal.the-variants.{NoSuchTransaction, NoSuchNode, NoSuchKey, KeyNotHeld, WrongState, NotYet, Overtaken, TooManyKeysRead}
-use Rattle.calls.specs.Requests.{Request, read}
+use Rattle.calls.specs.Requests.{Request, read, finish}
 use Rattle.clock.specs.Clocks.{slot, marked}
 use Rattle.store.specs.declared.Version.{Version as Stored}
 use Rattle.store.specs.Model.{FreeRule, aside-there}
 use Rattle.store.specs.Model as store
-use Rattle.history.specs.Table.{Version, version, first-version, Table, first-table, Operation, after, puts, scripts-conflict, play-all, All-answered, Member, listed, Later, selected, newest}
+use Rattle.history.specs.Table.{Version, version, first-version, first-table, Operation, after, puts, scripts-conflict, play-all, All-answered, Member, listed, Later, selected, newest}
 use Rattle.history.specs.Protocol as protocol
-use Rattle.history.specs.Protocol.{Placement, State, Event, Reachable}
+use Rattle.history.specs.Protocol.{State, Event}
 use Rattle.history.specs.History as history
 use Rattle.history.specs.Statements as statements
 use Rattle.history.specs.Statements.{History-stands}
@@ -35,22 +35,27 @@ use Rattle.rules.specs.declared.records.Kind.the-variants.{Search, Update}
 use Rattle.rules.specs.declared.records.State.the-variants.{Open}
 use Rattle.rules.specs.declared.records.Event.the-variants.{Read}
 use Rattle.rules.specs.declared.records.Transaction.{Transaction}
-use Rattle.rules.specs.World.{World, Outcome, check, refuse, new-transaction, is-begun, is-node, is-key, holds, node, transaction, with-transaction, is-there, wrote}
+use Rattle.rules.specs.World.{World, Outcome, check, new-transaction, is-begun, is-node, is-key, holds, node, transaction, with-transaction, is-there, wrote}
 use Rattle.rules.specs.Changes.{may, is-open, has-read, has-noted}
 use Rattle.rules.specs.Reading.{clock-after, version-passes, newest-passes, can-note, visible, read-by, read-open, read-call}
 use Rattle.rules.specs.Steps.{can-make, made-world, step, world-after}
 use Rattle.rules.specs.Transcript.{Transcript, Told, began, got, put-value, decided-commit, applied-there, nothing, told, transcript, script, answers-got, decisions, applied-at}
-use Rattle.rules.specs.Promises.{stays, Order-answered, table-after, Has-a-place, chain-of, writers, Lists-writers, newest-applied, Open-search, Yet-to-apply, reads-own-only, Numbers-within, Promises, Promises-kept}
+use Rattle.rules.specs.Promises.{stays, Order-answered, table-after, Has-a-place, chain-of, writers, Lists-writers, newest-applied, Answered, Is-search, Is-open-search, Yet-to-apply, reads-own-only, Numbers-within, Promises, Promises-kept}
 use Rattle.rules.proofs.View.{view, placed, told-by, kind-of, transaction-of, participation-of, version-of, without-last}
 use Rattle.rules.proofs.Invariant.{Invariant, Good-step, engaged-writers}
 use Rattle.rules.proofs.Told.{same-scripts, same-answers, same-decisions, same-applications}
 use Rattle.rules.proofs.Tied.{Tied, tied, Comes-to, view-begun, stays-begun}
 use Rattle.rules.proofs.Readers.{own-only, writers-update}
+use Rattle.rules.proofs.Searches.{Searched, searches-on}
 use Rattle.rules.proofs.Unchanged.{unchanged-if-refused}
 
 -- the versions of writers, over any scripts
 abbrev versions-by : (ℕ → List Operation) → ℕ → List ℕ → List Version
 versions-by f k order = selected (λ u. puts (f u) k) (λ u. after u (f u) first-table k) order
+
+-- a search that is open, by its record
+abbrev Open-search : World → ℕ → Type 0
+Open-search w t = (is-begun w t ≡ true) × (transaction w t .kind ≡ Search) × (transaction w t .state ≡ Open)
 
 -- a check that fails, and one that is passed on the way to an answer
 fails : (b : Bool) (w : World) (refusal : Refusal) (o : Outcome) → b ≡ false → check b w refusal o .0 ≡ Refused refusal
@@ -271,9 +276,9 @@ module _ (placement : List ℕ) (calls : Transcript) (w : World) (tie : Tied pla
       let x = stamp-shown t (m .0) in
       let y = stamp-shown u (m .1) in
       let z = stands .stamps-follow-decisions t u k (subst (λ (d : List ℕ). Later t u d) (sym decisions-same) l)
-          (subst (λ (f : ℕ → List Operation). scripts-conflict (f u) (f t) k ≡ true) (sym scripts-same) c)
-          (subst (λ (f : ℕ → List Operation). (j : ℕ) × (puts (f t) j ≡ true)) (sym scripts-same) a)
-          (subst (λ (f : ℕ → List Operation). (j : ℕ) × (puts (f u) j ≡ true)) (sym scripts-same) b) in
+      (subst (λ (f : ℕ → List Operation). scripts-conflict (f u) (f t) k ≡ true) (sym scripts-same) c)
+      (subst (λ (f : ℕ → List Operation). (j : ℕ) × (puts (f t) j ≡ true)) (sym scripts-same) a)
+      (subst (λ (f : ℕ → List Operation). (j : ℕ) × (puts (f u) j ≡ true)) (sym scripts-same) b) in
       omega arith
 
   -- a node that is behind
@@ -307,8 +312,8 @@ module _ (placement : List ℕ) (calls : Transcript) (w : World) (tie : Tied pla
   unwritten : (t k : ℕ) → is-begun w t ≡ true → transaction w t .kind ≡ Search → wrote (transaction w t) k ≡ false
   unwritten t k b e = ⊎-elim
       (λ (x : wrote (transaction w t) k ≡ true).
-          absurd (one-kind {A = ⊥} (protocol.kind (view w) t) (ap (λ (x : protocol.Transaction). x .kind) (shown t b) ∙ ap kind-of e)
-          (writers-update (placed placement) 256 (tie .reachable) t k (ap (λ (x : protocol.Transaction). x .writing .wrote k) (shown t b) ∙ x))))
+      absurd (one-kind {A = ⊥} (protocol.kind (view w) t) (ap (λ (x : protocol.Transaction). x .kind) (shown t b) ∙ ap kind-of e)
+      (writers-update (placed placement) 256 (tie .reachable) t k (ap (λ (x : protocol.Transaction). x .writing .wrote k) (shown t b) ∙ x))))
       (λ (x : wrote (transaction w t) k ≡ false). x)
       (cases-bool (wrote (transaction w t) k))
 
@@ -330,8 +335,8 @@ module _ (placement : List ℕ) (calls : Transcript) (w : World) (tie : Tied pla
   refused-only-if-behind : (free : FreeRule) (t k p : ℕ) → Open-search w t → holds w p k ≡ true → (r : Refusal) → step free w (read t k p) .0 ≡ Refused r → Yet-to-apply calls w t p
   refused-only-if-behind free t k p o held r e =
       let f : leb (slot (transaction w t .clock) p) (node w p .frontier) ≡ false =
-          refused-there (leb (slot (transaction w t .clock) p) (node w p .frontier)) w (with-transaction w t (has-read p (clock-after w (transaction w t) p) (transaction w t))) NotYet r (visible w (transaction w t) k p .value) (visible w (transaction w t) k p .writer)
-          (ap (λ (x : Outcome). x .0) (sym (search-read free t k p o held)) ∙ e) in
+      refused-there (leb (slot (transaction w t .clock) p) (node w p .frontier)) w (with-transaction w t (has-read p (clock-after w (transaction w t) p) (transaction w t))) NotYet r (visible w (transaction w t) k p .value) (visible w (transaction w t) k p .writer)
+      (ap (λ (x : Outcome). x .0) (sym (search-read free t k p o held)) ∙ e) in
       let lt : node w p .frontier < slot (transaction w t .clock) p = leb-false (slot (transaction w t .clock) p) (node w p .frontier) f in
       let c : protocol.clock (view w) t p ≡ slot (transaction w t .clock) p = ap (λ (z : protocol.Transaction). z .reading .clock p) (shown t (o .0)) in
       yet-to-apply t p (o .0) (stands .behind-exactly t p .0 (omega arith))
@@ -431,27 +436,31 @@ module _ (placement : List ℕ) (calls : Transcript) (w : World) (tie : Tied pla
         (read-marks w t k p value writer (tie .invariant .few-nodes) (λ b. tie .invariant .shaped t b .read) (λ b. ap (λ (x : protocol.Transaction). x .writing .wrote k) (sym (shown t b)) ∙ not-wrote) .at-node e)
 
   -- all of them
-  pub promises : (free : FreeRule) → ((request : Request) → Good-step free w request) → Promises free calls w
-  promises free good = record {
+  pub promises : (free : FreeRule) → ((request : Request) → Good-step free w request) → ((t : ℕ) → Is-search calls t → Searched calls w t) → Promises free calls w
+  promises free good searches = record {
     decided-once = subst (λ (d : List ℕ). (u : ℕ) → Later u u d → ⊥) decisions-same (stands .decision-order-serial .once);
     decided-answered = order-answered (decisions calls) (subst (λ (d : List ℕ). statements.Order-answered h d) decisions-same (stands .decision-order-serial .answered));
     chains-list-writers = lists-writers;
-    searches-uncommitted = searches-uncommitted;
+    searches-uncommitted = λ t s. searches-uncommitted t (searches t s .begun) (searches t s .search);
     uncommitted-has-a-place = has-a-place;
-    refused-if-behind = refused-if-behind free;
-    refused-only-if-behind = refused-only-if-behind free;
+    refused-if-behind = λ t k p o. refused-if-behind free t k p (open-there t o);
+    refused-only-if-behind = λ t k p o. refused-only-if-behind free t k p (open-there t o);
     first-read-current = λ t k p value writer own not-put e. first-read t k p value writer own not-put free (good (read t k p)) e;
     stamps-follow-decisions = stamps-ordered;
     numbers-small = numbers-small;
     refused-unchanged = unchanged-if-refused w free;
     places-kept = places-kept;
   }
+    where
+      open-there : (t : ℕ) → Is-open-search calls t → Open-search w t
+      open-there t o = (searches t (o .0) .begun, searches t (o .0) .search, ⊎-elim (λ (e : transaction w t .state ≡ Open). e) (λ (f : Answered (finish t) Done calls). absurd (o .1 f)) (searches t (o .0) .state))
 
 -- every call keeps the invariant and refines the protocol, and a made world is where it starts
 module _ (good : (free : FreeRule) (w : World) (request : Request) → Invariant w → Good-step free w request)
     (made : (n : ℕ) (placement : List ℕ) → can-make n (length placement) placement ≡ true → Invariant (made-world n placement) × (view (made-world n placement) ≡ protocol.fresh)) where
   pub promises-kept : Promises-kept
   promises-kept free n placement ok requests =
+      let w = made-world n placement in
       let tie = tied good made free n placement ok requests in
-      promises placement (transcript free (made-world n placement) requests) (world-after free (made-world n placement) requests) tie free
-      (λ request. good free (world-after free (made-world n placement) requests) request (tie .invariant))
+      promises placement (transcript free w requests) (world-after free w requests) tie free
+      (λ request. good free (world-after free w requests) request (tie .invariant)) (searches-on free [] w requests (λ t none. absurd none))

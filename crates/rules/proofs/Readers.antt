@@ -1,16 +1,14 @@
 -- Two facts of every history: who wrote is an update, and who reads its own values only has read at no node.
 use mathlib.Core.Path.{_≡_, refl, sym, ap, _∙_}
 use mathlib.Core.Bool.{Bool, true, false, cond, _&&_}
-use mathlib.Core.List.{List, [], _∷_}
+use mathlib.Core.List.{List, _∷_}
 use mathlib.Core.Logic.{_⊎_, inl, inr}
 use Prim.Native.Nat.{ℕ}
-use native.Mathlib.Omega.{arith}
 use lib.Dec.{eqb}
 use Rattle.std.proofs.shelf.Tests.{both-ways, eq-eqb, ne-eqb, and-parts, cases-eq}
-use Rattle.std.proofs.shelf.Ways.{tells}
 use Rattle.history.specs.Table.{Version, Operation, get, put, puts}
-use Rattle.history.specs.Protocol.{Placement, Kind, Update, State, kind, wrote, status, Unbegun, Event, begin, read-own, read-search, read-update, write, offer, yes-write, yes-read, no-overtaken, no-place, commit, abort, cancel, learn-abort, learn-write, learn-read, apply, finish, Accepted, next, Reachable, start, then}
-use Rattle.history.specs.History.{mark, script, Was-read, Or-read}
+use Rattle.history.specs.Protocol.{Placement, Kind, Update, State, kind, wrote, status, Event, begin, read-own, read-search, read-update, write, offer, yes-write, yes-read, no-overtaken, no-place, commit, abort, cancel, learn-abort, learn-write, learn-read, apply, finish, Accepted, next, Reachable, start, then}
+use Rattle.history.specs.History.{script, Was-read}
 use Rattle.history.proofs.Basics.{clear}
 use Rattle.history.proofs.Invariants.{invariants}
 use Rattle.rules.specs.Promises.{reads-own-only}

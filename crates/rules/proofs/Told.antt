@@ -1,13 +1,13 @@
 -- What a history tells of each transaction is what a transcript that matches it tells.
 use mathlib.Core.Path.{_≡_, refl, sym, ap, _∙_, fun-ext}
-use mathlib.Core.List.{List, [], _∷_}
+use mathlib.Core.List.{List}
 use Prim.Native.Nat.{ℕ}
 use Rattle.history.specs.Table.{Version, Operation}
 use Rattle.history.specs.Protocol.{Event}
 use Rattle.history.specs.History as history
 use Rattle.history.specs.History.{Mark, mark, began, got-own, got-from, put-value, decided-commit, applied-there, nothing}
 use Rattle.rules.specs.Transcript as transcript
-use Rattle.rules.specs.Transcript.{Transcript, Told, told}
+use Rattle.rules.specs.Transcript.{Transcript, Told}
 use Rattle.rules.proofs.View.{told-by, Matches, none, skip, event}
 
 same-operation : (m : Mark) (t : ℕ) (l : List Operation) → history.add-operation m t l ≡ transcript.add-operation (told-by m) t l

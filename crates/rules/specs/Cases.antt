@@ -1,6 +1,6 @@
 -- Cases that were worked out by hand from the rules, as the rows of one table.
 use mathlib.Core.Path.{_≡_}
-use mathlib.Core.Bool.{true, cond}
+use mathlib.Core.Bool.{cond}
 use mathlib.Core.List.{List, [], _∷_, map}
 use Prim.Native.Nat.{ℕ, _-_}
 use lib.ListN.{length}
@@ -115,9 +115,9 @@ three-node-lines =
     ∷ (finish 1, Done)
     ∷ []
 
--- Two nodes, and two keys: key 0 at node 0, key 1 at node 1. Update 1 reads key 0, which update 2 then overwrites; so update 1 comes first,
--- whoever looks. Node 0 is busy for update 2 until it releases update 1, which only reads there, and its vote then carries the commit clock
--- of update 1. So a search that gets what update 2 wrote is put off at node 1 until that node has applied update 1.
+-- Two nodes, and two keys: key 0 at node 0, key 1 at node 1. Update 1 reads key 0, which update 2 then overwrites; so update 1 comes before
+-- update 2 in every order that answers both. Node 0 is busy for update 2 until it releases update 1, which only reads there, and its vote then
+-- carries the commit clock of update 1. So a search that gets what update 2 wrote is put off at node 1 until that node has applied update 1.
 abbrev pub overwritten-lines : List (Request × Answer)
 overwritten-lines =
     (begin 1, Begun 1)

@@ -6,15 +6,14 @@ use mathlib.Core.List.{List, [], _∷_, _++_, map, Perm}
 use mathlib.Core.Logic.{_⊎_}
 use Prim.Native.Nat.{ℕ, _≤_, _<_}
 use lib.ListN.{length}
-use Rattle.calls.specs.declared.answer.Answer.the-variants.{Found, Refused}
+use Rattle.calls.specs.declared.answer.Answer.{Answer}
+use Rattle.calls.specs.declared.answer.Answer.the-variants.{Done, Begun, Found, Refused}
 use Rattle.calls.specs.declared.refusal.Refusal.{Refusal}
 use Rattle.calls.specs.declared.refusal.Refusal.the-variants.{NotYet}
-use Rattle.calls.specs.Requests.{Request, read}
+use Rattle.calls.specs.Requests.{Request, begin, read, finish}
 use Rattle.clock.specs.Clocks.{slot, marked}
 use Rattle.history.specs.Table.{Version, version, first-version, Table, first-table, Operation, get, put, after, puts, scripts-conflict, play-all, All-answered, Member, listed, Later, selected, newest}
 use Rattle.store.specs.Model.{FreeRule, aside-there}
-use Rattle.rules.specs.declared.records.Kind.the-variants.{Search}
-use Rattle.rules.specs.declared.records.State.the-variants.{Open}
 use Rattle.rules.specs.World.{World, is-begun, holds, node, transaction, wrote}
 use Rattle.rules.specs.Steps.{can-make, made-world, step, world-after}
 use Rattle.rules.specs.Transcript.{Transcript, transcript, script, answers-got, decisions, applied-at}
@@ -65,9 +64,21 @@ newest-applied calls p k = newest (writers calls k (applied-at calls p))
 
 -- ── Reads ──
 
--- A search that has begun and not yet finished.
-abbrev pub Open-search : World → ℕ → Type 0
-Open-search w t = (is-begun w t ≡ true) × (transaction w t .kind ≡ Search) × (transaction w t .state ≡ Open)
+-- A call got this answer.
+abbrev pub Answered : Request → Answer → Transcript → Type 0
+Answered request answer [] = ⊥
+Answered request answer (x ∷ earlier) = ((x .0 ≡ request) × (x .1 ≡ answer)) ⊎ Answered request answer earlier
+
+-- A search: a begin of mode 0 answered its number. It is open until a finish of it is accepted.
+abbrev pub Is-search : Transcript → ℕ → Type 0
+Is-search calls t = Answered (begin 0) (Begun t) calls
+
+abbrev pub Is-open-search : Transcript → ℕ → Type 0
+Is-open-search calls t = Is-search calls t × (Answered (finish t) Done calls → ⊥)
+
+-- What a read would answer now.
+abbrev pub read-answer : FreeRule → World → ℕ → ℕ → ℕ → Answer
+read-answer free w t k p = step free w (read t k p) .0
 
 -- Node p has yet to apply a committed update that writes there, stamped no higher than t's slot for p.
 pub record Yet-to-apply (calls : Transcript) (w : World) (t p : ℕ) : Type 0 where
@@ -98,46 +109,42 @@ pub record Numbers-within (b : ℕ) (w : World) : Type 0 where
 
 -- ── The promises ──
 
+-- An update writes a key.
+abbrev pub Writes-some : Transcript → ℕ → Type 0
+Writes-some calls u = (k : ℕ) × (puts (script calls u) k ≡ true)
+
 -- Of the calls so far and the world after them.
 pub record Promises (free : FreeRule) (calls : Transcript) (w : World) : Type 0 where
-  -- No update is decided twice.
+  -- The committed updates, each of which is decided once, run singly on one table in the order of decision, get every answer that they got.
   pub decided-once : (u : ℕ) → Later u u (decisions calls) → ⊥
-
-  -- The committed updates, run singly on one table in the order of decision, get every answer that they got.
   pub decided-answered : Order-answered calls (decisions calls)
-
   -- After its first version a holder's chain of a key lists that key's committed writers in this order, lacking at most the last.
   pub chains-list-writers : (p k : ℕ) → holds w p k ≡ true → Lists-writers calls w p k
-
-  -- A search is never committed.
-  pub searches-uncommitted : (t : ℕ) → is-begun w t ≡ true → transaction w t .kind ≡ Search → Member t (decisions calls) → ⊥
-
-  -- For each search, and for each update that is not committed, the committed updates have an order with a place for it: run so on one
-  -- table all get their answers again, and the table ends as in the order of decision.
+  -- For each search, which is never committed, and for each update that is not committed, the committed updates have an order with a place
+  -- for it: run so on one table all get their answers again, and the table ends as in the order of decision.
+  pub searches-uncommitted : (t : ℕ) → Is-search calls t → Member t (decisions calls) → ⊥
   pub uncommitted-has-a-place : (t : ℕ) → (Member t (decisions calls) → ⊥) → Has-a-place calls t
-
   -- An open search's read of a key at a holder is refused exactly when that node has yet to apply a committed update that writes there,
   -- stamped no higher than the search's slot for the node; and then it is refused as not yet.
-  pub refused-if-behind : (t k p : ℕ) → Open-search w t → holds w p k ≡ true → Yet-to-apply calls w t p → step free w (read t k p) .0 ≡ Refused NotYet
-  pub refused-only-if-behind : (t k p : ℕ) → Open-search w t → holds w p k ≡ true → (r : Refusal) → step free w (read t k p) .0 ≡ Refused r → Yet-to-apply calls w t p
-
+  pub refused-if-behind : (t k p : ℕ) → Is-open-search calls t → holds w p k ≡ true → Yet-to-apply calls w t p → read-answer free w t k p ≡ Refused NotYet
+  pub refused-only-if-behind : (t k p : ℕ) → Is-open-search calls t → holds w p k ≡ true → (r : Refusal) → read-answer free w t k p ≡ Refused r → Yet-to-apply calls w t p
   -- A transaction's first accepted read, its own writes aside, gets the newest version applied at that node.
-  pub first-read-current : (t k p value writer : ℕ) → reads-own-only (script calls t) ≡ true → puts (script calls t) k ≡ false → step free w (read t k p) .0 ≡ Found value writer →
-      version value writer ≡ newest-applied calls p k
-
+  pub first-read-current :
+      (t k p value writer : ℕ) → reads-own-only (script calls t) ≡ true → puts (script calls t) k ≡ false →
+      read-answer free w t k p ≡ Found value writer → version value writer ≡ newest-applied calls p k
   -- Of two conflicting committed updates that both wrote, the one decided first has the lower stamp.
-  pub stamps-follow-decisions : (t u k : ℕ) → Later t u (decisions calls) → scripts-conflict (script calls u) (script calls t) k ≡ true → ((j : ℕ) × (puts (script calls t) j ≡ true)) →
-      ((j : ℕ) × (puts (script calls u) j ≡ true)) → transaction w u .stamp < transaction w t .stamp
-
+  pub stamps-follow-decisions :
+      (t u k : ℕ) → Later t u (decisions calls) → scripts-conflict (script calls u) (script calls t) k ≡ true → Writes-some calls t → Writes-some calls u →
+      transaction w u .stamp < transaction w t .stamp
   -- No stamp exceeds 587,775, and no other number does.
   pub numbers-small : Numbers-within 587775 w
-
   -- A refused call changes nothing.
   pub refused-unchanged : (request : Request) (r : Refusal) → step free w request .0 ≡ Refused r → step free w request .1 ≡ w
-
   -- For each key that an update writes at a node where it is engaged a place is set aside there: the store refuses neither to put a version
   -- nor to take the place back.
-  pub places-kept : (t p k : ℕ) → is-begun w t ≡ true → marked (transaction w t .engaged) p ≡ true → wrote (transaction w t) k ≡ true → holds w p k ≡ true → aside-there (w .store) p k ≡ true
+  pub places-kept :
+      (t p k : ℕ) → is-begun w t ≡ true → marked (transaction w t .engaged) p ≡ true → wrote (transaction w t) k ≡ true → holds w p k ≡ true →
+      aside-there (w .store) p k ≡ true
 
 -- They are kept whatever the rule of free places, the make that was accepted, and the calls.
 abbrev pub Promises-kept : Type 0
