@@ -100,7 +100,7 @@ fn change_of_mind<S: VersionStore>(rt: &impl Print, store: &mut S) -> io::Result
     }
 }
 
-pub fn run<S: VersionStore>(rt: &impl Print, store: &mut S) -> io::Result<()> {
+pub(crate) fn run<S: VersionStore>(rt: &impl Print, store: &mut S) -> io::Result<()> {
     move_to(rt, store, 101, 1)?;
     move_to(rt, store, 102, 2)?;
     move_to(rt, store, 103, 3)?;
