@@ -1,1 +1,5 @@
 pub mod Bounded
+pub mod Counts
+pub mod Ones
+pub mod Holders
+pub mod Answering

@@ -4,6 +4,7 @@ use crate::table::Table;
 use store::VersionStore;
 
 pub mod simple;
+pub mod updating;
 
 /// A catalogue over a version store.
 #[derive(Drop)]

@@ -2,4 +2,5 @@
 
 mod catalogue;
 mod changes;
+mod rows;
 mod table;
