@@ -14,10 +14,14 @@ use Rattle.rules.specs.World.{World, Outcome, check, with-transaction}
 use Rattle.catalogue.specs.declared.table.Table.{Table}
 use Rattle.catalogue.specs.Tables.{world-of}
 
--- A check that was passed.
+-- A check that was passed, and one that was not.
 pub ok-when : {A E : Type 0} (b : Bool) (x y : A) (e : E) → Ok x ≡ cond b (Ok y) (Err e) → (b ≡ true) × (x ≡ y)
 ok-when true x y e h = (refl, cc)
-ok-when false x y e h = let no : _≡_ {A = ℕ} 0 1 = cc in absurd (omega arith)
+ok-when false x y e h = let never : _≡_ {A = ℕ} 0 1 = cc in absurd (omega arith)
+
+pub err-when : {A E : Type 0} (b : Bool) (y : A) (d e : E) → Err d ≡ cond b (Ok y) (Err e) → b ≡ false
+err-when true y d e h = let never : _≡_ {A = ℕ} 0 1 = cc in absurd (omega arith)
+err-when false y d e h = refl
 
 pub checked : (b : Bool) (w : World) (refusal : Refusal) (rest : Outcome) → b ≡ true → check b w refusal rest ≡ rest
 checked b w refusal rest e = ap (λ (holds : Bool). check holds w refusal rest) e

@@ -3,3 +3,5 @@ pub mod Counts
 pub mod Ones
 pub mod Holders
 pub mod Answering
+pub mod Seeing
+pub mod Chains

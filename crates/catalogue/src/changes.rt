@@ -14,6 +14,7 @@ use rules::records::Kind;
 use rules::records::State;
 use rules::records::Transaction;
 
+pub mod reading;
 pub mod writing;
 
 /// A transaction as it begins.
