@@ -5,3 +5,4 @@ pub mod Holders
 pub mod Answering
 pub mod Seeing
 pub mod Chains
+pub mod Noting
