@@ -3,6 +3,7 @@
 use crate::table::Table;
 use store::VersionStore;
 
+pub mod reading;
 pub mod seeing;
 pub mod simple;
 pub mod updating;

@@ -6,7 +6,7 @@ use Rattle.clock.specs.Clocks.{passes}
 use Rattle.store.specs.declared.Version.{Version}
 use Rattle.rules.specs.Reading.{commit-clock, newest-passing, newest-passes}
 use Rattle.catalogue.specs.Tables.{world-of}
-use Rattle.catalogue.proofs.catalogue.Catalogue.visible.Given as given
+use Rattle.catalogue.proofs.catalogue.Catalogue.newest_passing.Given as given
 
 -- No version so far passes.
 abbrev pub Inv-loop-value : given.InvT-loop-value
