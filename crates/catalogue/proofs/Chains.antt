@@ -1,6 +1,6 @@
 -- Walking a chain from its newest version on.
 use mathlib.Core.Path.{_≡_, refl, sym, _∙_, ap}
-use mathlib.Core.Bool.{Bool, true, false, cond}
+use mathlib.Core.Bool.{Bool, true, false}
 use mathlib.Core.List.{List, [], _∷_}
 use Prim.Native.Nat.{ℕ, zero, suc, _+_, _<_}
 use native.Mathlib.Numerals.{add-one}
@@ -9,7 +9,6 @@ use lib.Dec.{eqb}
 use lib.ListN.{length, drop}
 use Rattle.std.proofs.shelf.Tests.{cond-true, cond-false}
 use Rattle.std.proofs.shelf.Ways.{tells}
-use Rattle.std.specs.declared.option.Option.{Option}
 use Rattle.std.specs.declared.option.Option.the-variants.{Some, None}
 use Rattle.store.specs.declared.Version.{Version}
 use Rattle.store.specs.Model.{Meaning, first-version, in-range, nth-of, nth-answer}
@@ -28,7 +27,7 @@ version value writer = record { value = value; writer = writer }
 found : (vs : List Version) (i value writer : ℕ) → Some (value, writer) ≡ nth-of vs i → (i < length vs) × (drop i vs ≡ version value writer ∷ drop (suc i) vs)
 found [] i value writer e = let never : _≡_ {A = ℕ} 0 1 = cc in absurd (omega arith)
 found (v ∷ vs) zero value writer e =
-    let same : (v .value, v .writer) ≡ (value, writer) = cc in
+    let same : _≡_ {A = ℕ × ℕ} (v .value, v .writer) (value, writer) = cc in
     (omega arith, ap (λ (pair : ℕ × ℕ). version (pair .0) (pair .1) ∷ vs) same)
 found (v ∷ vs) (suc i) value writer e = let rest = found vs i value writer e in (omega (arith, rest .0), rest .1)
 
@@ -58,7 +57,7 @@ module _ (test : Version → Bool) where
   first-test : (vs : List Version) (value writer : ℕ) → Some (value, writer) ≡ nth-of vs 0 → newest-passes test vs ≡ test (version value writer)
   first-test [] value writer e = let never : _≡_ {A = ℕ} 0 1 = cc in absurd (omega arith)
   first-test (v ∷ vs) value writer e =
-      let same : (v .value, v .writer) ≡ (value, writer) = cc in
+      let same : _≡_ {A = ℕ × ℕ} (v .value, v .writer) (value, writer) = cc in
       ap (λ (pair : ℕ × ℕ). test (version (pair .0) (pair .1))) same
 
   pub newest-here : (vs : List Version) (i value writer : ℕ) → Some (value, writer) ≡ nth-of vs i → test (version value writer) ≡ true → (0 < i → newest-passes test vs ≡ false) → eqb i 0 ≡ newest-passes test vs

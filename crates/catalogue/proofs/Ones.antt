@@ -1,7 +1,7 @@
 -- The ones of a byte are the nodes that it names.
 use mathlib.Core.Path.{_≡_, ap, _∙_}
 use mathlib.Core.Bool.{cond}
-use Prim.Native.Nat.{ℕ, _+_, _<_, _≤_, _/_, _%_, _^_}
+use Prim.Native.Nat.{ℕ, _+_, _<_, _/_, _%_, _^_}
 use native.Mathlib.Omega.{arith}
 use lib.Count.{ones, ones-step, ones-le}
 use lib.Dec.{eqb}
@@ -21,9 +21,17 @@ step byte h x e = ones-step x ∙ ap (λ y. y + ones (x / 2)) (ap (λ y. y % 2) 
 pub ones-nodes : (byte : ℕ) → byte < 256 → ones byte ≡ length (nodes-of byte)
 ones-nodes byte small =
     let none : byte / 2 / 2 / 2 / 2 / 2 / 2 / 2 / 2 ≡ 0 = omega arith in
-    omega (arith, length-kept-by (bit byte) (counting 0 8),
-    step byte 0 byte (omega arith), step byte 1 (byte / 2) (omega arith), step byte 2 (byte / 2 / 2) (omega arith),
-    step byte 3 (byte / 2 / 2 / 2) (omega arith), step byte 4 (byte / 2 / 2 / 2 / 2) (omega arith),
-    step byte 5 (byte / 2 / 2 / 2 / 2 / 2) (omega arith), step byte 6 (byte / 2 / 2 / 2 / 2 / 2 / 2) (omega arith),
-    step byte 7 (byte / 2 / 2 / 2 / 2 / 2 / 2 / 2) (omega arith),
-    ap ones none, ones-le 0 0 (omega arith))
+    omega (
+      arith,
+      length-kept-by (bit byte) (counting 0 8),
+      step byte 0 byte (omega arith),
+      step byte 1 (byte / 2) (omega arith),
+      step byte 2 (byte / 2 / 2) (omega arith),
+      step byte 3 (byte / 2 / 2 / 2) (omega arith),
+      step byte 4 (byte / 2 / 2 / 2 / 2) (omega arith),
+      step byte 5 (byte / 2 / 2 / 2 / 2 / 2) (omega arith),
+      step byte 6 (byte / 2 / 2 / 2 / 2 / 2 / 2) (omega arith),
+      step byte 7 (byte / 2 / 2 / 2 / 2 / 2 / 2 / 2) (omega arith),
+      ap ones none,
+      ones-le 0 0 (omega arith),
+    )

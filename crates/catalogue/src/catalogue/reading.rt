@@ -26,7 +26,12 @@ use store::VersionStore;
 
 impl<S: VersionStore> Catalogue<S> {
     /// The value of a key at a node, with its writer.
-    pub(crate) fn read(&mut self, t: TransactionNumber, k: KeyNumber, p: NodeNumber) -> Result<(StoredValue, TransactionNumber), Refusal>
+    pub(crate) fn read(
+        &mut self,
+        t: TransactionNumber,
+        k: KeyNumber,
+        p: NodeNumber,
+    ) -> Result<(StoredValue, TransactionNumber), Refusal>
         ensures value { λ r. ⌜ (found r, world-of (now (self .exit) .table) (S·VersionStore .meaning (now (self .exit) .store))) ≡ read-call (world-of (now (self .entry) .table) (S·VersionStore .meaning (now (self .entry) .store))) t k p ⌝ }
         ensures rule { λ r. ⌜ S·VersionStore .free (now (self .exit) .store) ≡ S·VersionStore .free (now (self .entry) .store) ⌝ }
     {
@@ -49,7 +54,13 @@ impl<S: VersionStore> Catalogue<S> {
     }
 
     /// A read that is not put off, of a key that the transaction has not written.
-    fn read_stored(&mut self, t: TransactionNumber, k: KeyNumber, p: NodeNumber, x: Transaction) -> Result<(StoredValue, TransactionNumber), Refusal>
+    fn read_stored(
+        &mut self,
+        t: TransactionNumber,
+        k: KeyNumber,
+        p: NodeNumber,
+        x: Transaction,
+    ) -> Result<(StoredValue, TransactionNumber), Refusal>
         requires range { ⌜ p < 8 ⌝ ∗ ⌜ k < 64 ⌝ }
         requires begun { ⌜ is-begun (world-of (now self .table) fresh) t ≡ true ⌝ }
         requires record { ⌜ x ≡ transaction (world-of (now self .table) fresh) t ⌝ }

@@ -44,10 +44,19 @@ impl<S: VersionStore> Catalogue<S> {
         let mut steps: usize = 0;
         while let Some((value, writer)) = self.store.nth(p, k, steps) {
             if passes(read, self.table.commit_clock(writer), clock) {
-                return Seen { version: Version { value, writer }, newest: steps == 0 };
+                return Seen {
+                    version: Version { value, writer },
+                    newest: steps == 0,
+                };
             }
             steps += 1;
         }
-        Seen { version: Version { value: 0, writer: 0 }, newest: steps == 0 }
+        Seen {
+            version: Version {
+                value: 0,
+                writer: 0,
+            },
+            newest: steps == 0,
+        }
     }
 }

@@ -19,7 +19,12 @@ use store::VersionStore;
 
 impl<S: VersionStore> Catalogue<S> {
     /// Gives an update a value for a key.
-    pub(crate) fn write(&mut self, t: TransactionNumber, k: KeyNumber, value: StoredValue) -> Result<(), Refusal>
+    pub(crate) fn write(
+        &mut self,
+        t: TransactionNumber,
+        k: KeyNumber,
+        value: StoredValue,
+    ) -> Result<(), Refusal>
         ensures value { λ r. ⌜ (done r, world-of (now (self .exit) .table) (S·VersionStore .meaning (now (self .exit) .store))) ≡ write-call (world-of (now (self .entry) .table) (S·VersionStore .meaning (now (self .entry) .store))) t k value ⌝ }
         ensures rule { λ r. ⌜ S·VersionStore .free (now (self .exit) .store) ≡ S·VersionStore .free (now (self .entry) .store) ⌝ }
     {

@@ -9,7 +9,7 @@ ghost use Rattle.calls.specs.declared.refusal.Refusal.the-variants.{TooManyKeys
 ghost use Rattle.rules.specs.Changes.{has-read, has-noted};
 ghost use Rattle.rules.specs.Reading.{can-note};
 ghost use Rattle.catalogue.specs.Bounds.{raised-by, Clock-within, Transaction-within, Keeps};
-use crate::rows::how_many;
+use crate::rows::has_room;
 use calls::refusal::Refusal;
 use calls::sizes::KeyNumber;
 use calls::sizes::NodeNumber;
@@ -30,18 +30,21 @@ pub(crate) fn with_read(x: Transaction, p: NodeNumber, clock: Clock) -> Transact
 }
 
 /// The transaction with the writer of a version that it read noted, once a key and of at most eight keys.
-pub(crate) fn with_note(x: Transaction, k: KeyNumber, writer: TransactionNumber) -> Result<Transaction, Refusal>
+pub(crate) fn with_note(
+    x: Transaction,
+    k: KeyNumber,
+    writer: TransactionNumber,
+) -> Result<Transaction, Refusal>
     requires { ⌜ k < 64 ⌝ }
     ensures value { λ r. ⌜ r ≡ cond (can-note x k) (Ok (has-noted k writer x)) (Err TooManyKeysRead) ⌝ }
     ensures kept { λ r. ⌜ made r (λ y. Keeps x y) ⌝ }
 {
-    let mut noted = x.noted;
-    if noted[usize::from(k)].is_some() {
-        return Ok(x);
-    }
-    if how_many(&noted) >= 8 {
+    if !has_room(&x.noted, k) {
         return Err(Refusal::TooManyKeysRead);
     }
-    noted[usize::from(k)] = Some(writer);
+    let mut noted = x.noted;
+    if noted[usize::from(k)].is_none() {
+        noted[usize::from(k)] = Some(writer);
+    }
     Ok(Transaction { noted, ..x })
 }

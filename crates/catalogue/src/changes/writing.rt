@@ -10,7 +10,7 @@ ghost use Rattle.calls.specs.declared.refusal.Refusal.the-variants.{TooManyKeys
 ghost use Rattle.rules.specs.World.{wrote, how-many};
 ghost use Rattle.rules.specs.Changes.{has-written, is-now-offered};
 ghost use Rattle.catalogue.specs.Bounds.{is-committed, Keeps};
-use crate::rows::how_many;
+use crate::rows::has_room;
 use calls::refusal::Refusal;
 use calls::sizes::KeyNumber;
 use calls::sizes::StoredValue;
@@ -18,15 +18,19 @@ use rules::records::State;
 use rules::records::Transaction;
 
 /// The transaction with a value for a key, of at most eight keys.
-pub(crate) fn with_write(x: Transaction, k: KeyNumber, value: StoredValue) -> Result<Transaction, Refusal>
+pub(crate) fn with_write(
+    x: Transaction,
+    k: KeyNumber,
+    value: StoredValue,
+) -> Result<Transaction, Refusal>
     requires { ⌜ k < 64 ⌝ }
     ensures value { λ r. ⌜ r ≡ cond (wrote x k || ltb (how-many (x .written)) 8) (Ok (has-written k value x)) (Err TooManyKeysWritten) ⌝ }
     ensures kept { λ r. ⌜ made r (λ y. Keeps x y) ⌝ }
 {
-    let mut written = x.written;
-    if written[usize::from(k)].is_none() && how_many(&written) >= 8 {
+    if !has_room(&x.written, k) {
         return Err(Refusal::TooManyKeysWritten);
     }
+    let mut written = x.written;
     written[usize::from(k)] = Some(value);
     Ok(Transaction { written, ..x })
 }
@@ -37,5 +41,9 @@ pub(crate) fn offered(x: Transaction, polled: u8) -> Transaction
     ensures value { λ r. ⌜ r ≡ is-now-offered polled x ⌝ }
     ensures kept { λ r. ⌜ Keeps x r ⌝ }
 {
-    Transaction { state: State::Offered, polled, ..x }
+    Transaction {
+        state: State::Offered,
+        polled,
+        ..x
+    }
 }

@@ -15,13 +15,13 @@ loop-entry-again g c =
     let is = sym (ap isSome (c .entry-item .is)) ∙ sym (c .is-some .ensures) in
     let had = c .loop-entry .inv .0 in
     let few = c .loop-entry .inv .1 in
-    elim (c .if-is-some .came)
-    [ then-is-some w ↦
-      let after = w .there-is in
-      (omega (arith, how-many-some row i d (c .loop-entry-test .taken) (is ∙ w .if-is-some .taken)), omega arith)
-    | else-is-some w ↦
-      let after = w .there-is in
-      (omega (arith, how-many-none row i d (c .loop-entry-test .taken) (is ∙ w .if-is-some .left)), omega arith)
+    elim (c .if-is-some .came) [
+      | then-is-some w ↦
+          let after = w .there-is in
+          (omega (arith, how-many-some row i d (c .loop-entry-test .taken) (is ∙ w .if-is-some .taken)), omega arith)
+      | else-is-some w ↦
+          let after = w .there-is in
+          (omega (arith, how-many-none row i d (c .loop-entry-test .taken) (is ∙ w .if-is-some .left)), omega arith)
     ]
 
 pub returns : need.returns

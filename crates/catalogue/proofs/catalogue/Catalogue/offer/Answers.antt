@@ -29,11 +29,11 @@ returns g c =
     let offer : ℕ → Transaction → Outcome = λ byte x. (Polled (length (nodes-of byte)), with-transaction w t (is-now-offered byte x)) in
     record {
       value =
-        ap (λ (n : ℕ). (Polled n, world-of (c .update .last .self) m)) (c .count-nodes .ensures)
-        ∙ ap (λ (u : World). (Polled (length (nodes-of byte)), u)) after
-        ∙ ap (λ (b : ℕ). offer b x) (c .polled-nodes .ensures m)
-        ∙ sym (checked (may Offer x) w WrongState (offer (polled-byte w x) x) (allowed .0))
-        ∙ ap (λ (y : Transaction). check (may Offer y) w WrongState (offer (polled-byte w y) y)) (begun .1)
-        ∙ sym (checked (is-begun w t) w NoSuchTransaction (check (may Offer (transaction w t)) w WrongState (offer (polled-byte w (transaction w t)) (transaction w t))) (begun .0));
+          ap (λ (n : ℕ). (Polled n, world-of (c .update .last .self) m)) (c .count-nodes .ensures)
+          ∙ ap (λ (u : World). (Polled (length (nodes-of byte)), u)) after
+          ∙ ap (λ (b : ℕ). offer b x) (c .polled-nodes .ensures m)
+          ∙ sym (checked (may Offer x) w WrongState (offer (polled-byte w x) x) (allowed .0))
+          ∙ ap (λ (y : Transaction). check (may Offer y) w WrongState (offer (polled-byte w y) y)) (begun .1)
+          ∙ sym (checked (is-begun w t) w NoSuchTransaction (check (may Offer (transaction w t)) w WrongState (offer (polled-byte w (transaction w t)) (transaction w t))) (begun .0));
       rule = refl;
     }

@@ -1,4 +1,4 @@
-use mathlib.Core.Path.{_≡_, _∙_, ap}
+use mathlib.Core.Path.{_∙_, ap}
 use mathlib.Core.Bool.{Bool, true}
 use mathlib.Core.List.{List}
 use Prim.Native.Nat.{ℕ}
@@ -18,11 +18,11 @@ returns g c =
     let test : ℕ → List ℕ → Version → Bool = λ p clock v. passes (set row p true) (commit-clock w (v .writer)) clock in
     record {
       version =
-        c .newest-passing .ensures .version
-        ∙ ap (λ (p : ℕ). newest-passing (test p (c .args .clock)) vs) (c .from .ensures)
-        ∙ ap (λ (clock : List ℕ). newest-passing (test (c .args .p) clock) vs) (c .pre .clock);
+          c .newest-passing .ensures .version
+          ∙ ap (λ (p : ℕ). newest-passing (test p (c .args .clock)) vs) (c .from .ensures)
+          ∙ ap (λ (clock : List ℕ). newest-passing (test (c .args .p) clock) vs) (c .pre .clock);
       newest =
-        c .newest-passing .ensures .newest
-        ∙ ap (λ (p : ℕ). newest-passes (test p (c .args .clock)) vs) (c .from .ensures)
-        ∙ ap (λ (clock : List ℕ). newest-passes (test (c .args .p) clock) vs) (c .pre .clock);
+          c .newest-passing .ensures .newest
+          ∙ ap (λ (p : ℕ). newest-passes (test p (c .args .clock)) vs) (c .from .ensures)
+          ∙ ap (λ (clock : List ℕ). newest-passes (test (c .args .p) clock) vs) (c .pre .clock);
     }

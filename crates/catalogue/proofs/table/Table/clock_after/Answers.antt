@@ -1,7 +1,5 @@
 use mathlib.Core.Path.{_≡_, sym, _∙_, ap, subst}
 use mathlib.Core.Bool.{true, false}
-use mathlib.Core.List.{List}
-use Prim.Native.Nat.{ℕ}
 use Rattle.std.specs.Iters.{folded}
 use Rattle.std.specs.Of.Vec.{vec-items}
 use Rattle.clock.specs.Clocks.{marked}

@@ -1,4 +1,3 @@
-use borrow.Author.Needs.{needs}
 use mathlib.Core.Path.{sym, _∙_, ap}
 use lib.Bits.{bitOr}
 use Rattle.std.specs.Of.Vec.{vec-items}
@@ -17,13 +16,13 @@ loop-k-again c =
     let k = c .loop-k .k in
     let inside = c .loop-k-test .taken in
     let is = sym (c .names .ensures) in
-    elim (c .if-names .came)
-    [ then-names w ↦
-      w .byte-is
-      ∙ ap (λ byte. bitOr byte (w .holders-byte .result)) (c .loop-k .inv)
-      ∙ ap (bitOr _) (w .holders-byte .ensures)
-      ∙ sym (polled-with placement x k inside (is ∙ w .if-names .taken))
-    | else-names w ↦ w .byte-is ∙ c .loop-k .inv ∙ sym (polled-without placement x k inside (is ∙ w .if-names .left))
+    elim (c .if-names .came) [
+      | then-names w ↦
+          w .byte-is
+          ∙ ap (λ byte. bitOr byte (w .holders-byte .result)) (c .loop-k .inv)
+          ∙ ap (bitOr _) (w .holders-byte .ensures)
+          ∙ sym (polled-with placement x k inside (is ∙ w .if-names .taken))
+      | else-names w ↦ w .byte-is ∙ c .loop-k .inv ∙ sym (polled-without placement x k inside (is ∙ w .if-names .left))
     ]
 
 pub returns : need.returns
