@@ -2,3 +2,10 @@ pub mod Bounded
 pub mod Rows
 pub mod Makes
 pub mod Performs
+pub mod Counts
+pub mod Ones
+pub mod Holders
+pub mod Answering
+pub mod Seeing
+pub mod Chains
+pub mod Noting

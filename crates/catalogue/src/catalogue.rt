@@ -3,7 +3,10 @@
 use crate::table::Table;
 use store::VersionStore;
 
+pub mod reading;
+pub mod seeing;
 pub mod simple;
+pub mod updating;
 
 /// A catalogue over a version store.
 #[derive(Drop)]

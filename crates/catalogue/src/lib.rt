@@ -5,4 +5,5 @@ mod changes;
 mod keys;
 pub mod make;
 pub mod perform;
+mod rows;
 mod table;

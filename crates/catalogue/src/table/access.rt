@@ -118,6 +118,19 @@ impl Table {
         self.set_transaction(t, x);
     }
 
+    /// Replaces the record of a transaction by one whose numbers stand in the tables already.
+    pub(crate) fn update_within(&mut self, t: TransactionNumber, x: Transaction)
+        requires begun { ⌜ is-begun (world-of (now self) fresh) t ≡ true ⌝ }
+        requires same { ⌜ raised-by x ≡ raised-by (transaction (world-of (now self) fresh) t) ⌝ }
+        requires within { ⌜ Transaction-within (most (vec-items (now self .transactions))) x ⌝ }
+        ensures transactions { λ _. ⌜ vec-items (now (self .exit) .transactions) ≡ set (vec-items (now (self .entry) .transactions)) (t - 1) x ⌝ }
+        ensures nodes { λ _. ⌜ vec-items (now (self .exit) .nodes) ≡ vec-items (now (self .entry) .nodes) ⌝ }
+        ensures placement { λ _. ⌜ vec-items (now (self .exit) .placement) ≡ vec-items (now (self .entry) .placement) ⌝ }
+        ensures bound { λ _. ⌜ most (vec-items (now (self .exit) .transactions)) ≡ most (vec-items (now (self .entry) .transactions)) ⌝ }
+    {
+        self.set_transaction(t, x);
+    }
+
     /// Replaces the record of a transaction by one that raised a number, by a vote or a commit.
     pub(crate) fn raise(&mut self, t: TransactionNumber, x: Transaction)
         requires begun { ⌜ is-begun (world-of (now self) fresh) t ≡ true ⌝ }
