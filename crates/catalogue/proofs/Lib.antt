@@ -1,3 +1,4 @@
 pub mod Bounded
 pub mod Rows
 pub mod Blocking
+pub mod Lowest

@@ -4,3 +4,4 @@ mod catalogue;
 mod changes;
 mod keys;
 mod table;
+mod voting;
