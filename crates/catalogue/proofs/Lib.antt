@@ -2,3 +2,4 @@ pub mod Bounded
 pub mod Rows
 pub mod Blocking
 pub mod Lowest
+pub mod Votes

@@ -14,6 +14,8 @@ use rules::records::Kind;
 use rules::records::State;
 use rules::records::Transaction;
 
+pub mod votes;
+
 /// A transaction as it begins.
 pub(crate) fn new_transaction(kind: Kind) -> Transaction
     ensures { λ r. ⌜ r ≡ new-transaction kind ⌝ }
