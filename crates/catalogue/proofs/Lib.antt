@@ -3,3 +3,4 @@ pub mod Rows
 pub mod Blocking
 pub mod Lowest
 pub mod Votes
+pub mod Known
