@@ -4,3 +4,4 @@ pub mod Blocking
 pub mod Lowest
 pub mod Votes
 pub mod Known
+pub mod Outcomes

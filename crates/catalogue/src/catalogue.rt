@@ -3,6 +3,7 @@
 use crate::table::Table;
 use store::VersionStore;
 
+pub mod preparing;
 pub mod simple;
 
 /// A catalogue over a version store.

@@ -4,4 +4,5 @@ mod catalogue;
 mod changes;
 mod keys;
 mod table;
+mod vote;
 mod voting;

@@ -1,11 +1,10 @@
 //! What a node looks at and sets aside before it votes.
 
 ghost use mathlib.Core.Path.{_≡_};
-ghost use mathlib.Core.Bool.{true};
 ghost use Prim.Native.Nat.{_<_};
-ghost use Rattle.store.specs.Model.{fresh, in-range};
+ghost use Rattle.store.specs.Model.{fresh};
 ghost use Rattle.store.specs.Batch.{all-aside, first-refused, if-ok};
-ghost use Rattle.rules.specs.World.{written-at};
+ghost use Rattle.rules.specs.World.{bit, written-at};
 ghost use Rattle.rules.specs.Voting.{newest-writer, overtaken-at, overtaken-key};
 ghost use Rattle.catalogue.specs.Tables.{world-of};
 use crate::keys::written_keys;
@@ -16,6 +15,14 @@ use calls::sizes::TransactionNumber;
 use rules::records::Transaction;
 use store::VersionStore;
 use store::batch::set_aside_all;
+
+/// Whether an offered update polls a node.
+pub(crate) fn is_polled(x: &Transaction, p: NodeNumber) -> bool
+    requires { ⌜ p < 8 ⌝ }
+    ensures { λ r. ⌜ r ≡ bit (now (x .entry) .polled) p ⌝ }
+{
+    (x.polled >> p) % 2 == 1
+}
 
 /// The writer of the newest version of a key at a node.
 fn newest_writer<S: VersionStore>(store: &S, p: NodeNumber, k: KeyNumber) -> TransactionNumber

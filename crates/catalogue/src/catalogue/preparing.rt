@@ -1,0 +1,95 @@
+//! The vote of a node.
+
+ghost use mathlib.Core.Path.{_≡_};
+ghost use mathlib.Core.Bool.{true, false, not, cond};
+ghost use Prim.Native.Nat.{_<_};
+ghost use Rattle.std.specs.Vec.{made};
+ghost use Rattle.std.specs.declared.result.Result.the-variants.{Ok, Err};
+ghost use Rattle.calls.specs.declared.refusal.Refusal.the-variants.{NotPolled, AlreadyDone, Busy};
+ghost use Rattle.clock.specs.Clocks.{marked};
+ghost use Rattle.store.specs.Model.{fresh};
+ghost use Rattle.rules.specs.World.{is-begun, node, transaction, bit};
+ghost use Rattle.rules.specs.Voting.{busy, overtaken-key, vote, prepare-call};
+ghost use Rattle.catalogue.specs.Tables.{world-of};
+ghost use Rattle.catalogue.specs.Replies.{vote-answer, voted};
+use super::Catalogue;
+use crate::changes::allow;
+use crate::vote::Vote;
+use crate::voting::is_polled;
+use crate::voting::overtaken;
+use crate::voting::set_places;
+use calls::refusal::Refusal;
+use calls::sizes::NodeNumber;
+use calls::sizes::TransactionNumber;
+use rules::records::Event;
+use rules::records::Node;
+use rules::records::Transaction;
+use store::VersionStore;
+
+impl<S: VersionStore> Catalogue<S> {
+    /// Whether a node may vote on a transaction now: it is polled, it has not voted yet, and no other update blocks it.
+    fn may_vote(
+        &self,
+        t: TransactionNumber,
+        x: &Transaction,
+        p: NodeNumber,
+    ) -> Result<(), Refusal>
+        requires node { ⌜ p < 8 ⌝ }
+        requires record { ⌜ now x ≡ transaction (world-of (now self .table) fresh) t ⌝ }
+        ensures value { λ r. ⌜ r ≡ cond (bit (now (x .entry) .polled) p) (cond (not (marked (now (x .entry) .voted) p)) (cond (not (busy (world-of (now (self .entry) .table) (S·VersionStore .meaning (now (self .entry) .store))) t p)) (Ok tt) (Err Busy)) (Err AlreadyDone)) (Err NotPolled) ⌝ }
+        ensures unvoted { λ r. ⌜ made r (λ _. marked (now (x .entry) .voted) p ≡ false) ⌝ }
+    {
+        if !is_polled(x, p) {
+            return Err(Refusal::NotPolled);
+        }
+        if x.voted[usize::from(p)] {
+            return Err(Refusal::AlreadyDone);
+        }
+        if self.table.is_busy(t, x, p) {
+            return Err(Refusal::Busy);
+        }
+        Ok(())
+    }
+
+    /// The vote of a node that may vote. It is a no where a key is overtaken, or where there is no place for a key.
+    fn vote(&mut self, t: TransactionNumber, x: Transaction, p: NodeNumber, n: Node) -> Vote
+        requires begun { ⌜ is-begun (world-of (now self .table) fresh) t ≡ true ⌝ }
+        requires record { ⌜ x ≡ transaction (world-of (now self .table) fresh) t ⌝ }
+        requires node { ⌜ p < 8 ⌝ }
+        requires unvoted { ⌜ marked (x .voted) p ≡ false ⌝ }
+        requires voter { ⌜ n ≡ node (world-of (now self .table) fresh) p ⌝ }
+        ensures outcome { λ r. ⌜ (vote-answer r, world-of (now (self .exit) .table) (S·VersionStore .meaning (now (self .exit) .store))) ≡ vote (S·VersionStore .free (now (self .entry) .store)) (world-of (now (self .entry) .table) (S·VersionStore .meaning (now (self .entry) .store))) t p x (overtaken-key (world-of (now (self .entry) .table) (S·VersionStore .meaning (now (self .entry) .store))) x p) ⌝ }
+        ensures rule { λ r. ⌜ S·VersionStore .free (now (self .exit) .store) ≡ S·VersionStore .free (now (self .entry) .store) ⌝ }
+    {
+        if let Some(key) = overtaken(&self.table, &self.store, &x, p) {
+            self.table.vote_no(t, x, p);
+            return Vote::NoOvertaken { key };
+        }
+        match set_places(&self.table, &mut self.store, &x, p) {
+            Ok(()) => {
+                let number = self.table.vote_yes(t, x, p, n);
+                Vote::Yes { number }
+            }
+            Err(key) => {
+                self.table.vote_no(t, x, p);
+                Vote::NoPlace { key }
+            }
+        }
+    }
+
+    /// Asks a node to vote on an offered update.
+    pub(crate) fn prepare(
+        &mut self,
+        t: TransactionNumber,
+        p: NodeNumber,
+    ) -> Result<Vote, Refusal>
+        ensures outcome { λ r. ⌜ (voted r, world-of (now (self .exit) .table) (S·VersionStore .meaning (now (self .exit) .store))) ≡ prepare-call (S·VersionStore .free (now (self .entry) .store)) (world-of (now (self .entry) .table) (S·VersionStore .meaning (now (self .entry) .store))) t p ⌝ }
+        ensures rule { λ r. ⌜ S·VersionStore .free (now (self .exit) .store) ≡ S·VersionStore .free (now (self .entry) .store) ⌝ }
+    {
+        let x = self.table.transaction(t)?;
+        let n = self.table.node(p)?;
+        allow(&x, Event::Prepare)?;
+        self.may_vote(t, &x, p)?;
+        Ok(self.vote(t, x, p, n))
+    }
+}
