@@ -27,28 +27,13 @@ use rules::records::Transaction;
 use store::VersionStore;
 
 impl<S: VersionStore> Catalogue<S> {
-    /// Whether a node may vote on a transaction now: it is polled, it has not voted yet, and no other update blocks it.
-    fn may_vote(
-        &self,
-        t: TransactionNumber,
-        x: &Transaction,
-        p: NodeNumber,
-    ) -> Result<(), Refusal>
+    /// Whether another update that is engaged at a node conflicts with a transaction there.
+    fn is_busy(&self, t: TransactionNumber, x: &Transaction, p: NodeNumber) -> bool
         requires node { ⌜ p < 8 ⌝ }
         requires record { ⌜ now x ≡ transaction (world-of (now self .table) fresh) t ⌝ }
-        ensures value { λ r. ⌜ r ≡ cond (bit (now (x .entry) .polled) p) (cond (not (marked (now (x .entry) .voted) p)) (cond (not (busy (world-of (now (self .entry) .table) (S·VersionStore .meaning (now (self .entry) .store))) t p)) (Ok tt) (Err Busy)) (Err AlreadyDone)) (Err NotPolled) ⌝ }
-        ensures unvoted { λ r. ⌜ made r (λ _. marked (now (x .entry) .voted) p ≡ false) ⌝ }
+        ensures { λ r. ⌜ r ≡ busy (world-of (now (self .entry) .table) (S·VersionStore .meaning (now (self .entry) .store))) t p ⌝ }
     {
-        if !is_polled(x, p) {
-            return Err(Refusal::NotPolled);
-        }
-        if x.voted[usize::from(p)] {
-            return Err(Refusal::AlreadyDone);
-        }
-        if self.table.is_busy(t, x, p) {
-            return Err(Refusal::Busy);
-        }
-        Ok(())
+        self.table.is_busy(t, x, p)
     }
 
     /// The vote of a node that may vote. It is a no where a key is overtaken, or where there is no place for a key.
@@ -89,7 +74,15 @@ impl<S: VersionStore> Catalogue<S> {
         let x = self.table.transaction(t)?;
         let n = self.table.node(p)?;
         allow(&x, Event::Prepare)?;
-        self.may_vote(t, &x, p)?;
+        if !is_polled(&x, p) {
+            return Err(Refusal::NotPolled);
+        }
+        if x.voted[usize::from(p)] {
+            return Err(Refusal::AlreadyDone);
+        }
+        if self.is_busy(t, &x, p) {
+            return Err(Refusal::Busy);
+        }
         Ok(self.vote(t, x, p, n))
     }
 }
