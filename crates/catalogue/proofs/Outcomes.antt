@@ -1,21 +1,17 @@
 -- The outcome of a vote, from its parts. What a vote looks at in the tables does not depend on what the store holds.
-use mathlib.Core.Path.{_≡_, refl, sym, _∙_, ap}
-use mathlib.Core.Bool.{Bool, true, false, not, cond}
+use mathlib.Core.Path.{_≡_, refl, _∙_, ap}
+use mathlib.Core.Bool.{Bool, true, false}
 use mathlib.Core.List.{List}
 use Prim.Native.Nat.{ℕ, _-_}
 use lib.ListN.{set}
 use Rattle.std.specs.declared.option.Option.the-variants.{None}
-use Rattle.std.specs.declared.result.Result.{Result}
 use Rattle.std.specs.declared.result.Result.the-variants.{Ok, Err}
-use Rattle.calls.specs.declared.answer.Answer.{Answer}
-use Rattle.calls.specs.declared.answer.Answer.the-variants.{Yes, NoPlace, Refused}
-use Rattle.calls.specs.declared.refusal.Refusal.{Refusal}
-use Rattle.calls.specs.declared.refusal.Refusal.the-variants.{NotPolled, AlreadyDone, Busy}
+use Rattle.calls.specs.declared.answer.Answer.the-variants.{Yes, NoPlace}
 use Rattle.store.specs.Model.{FreeRule, Meaning, fresh}
 use Rattle.store.specs.Batch.{all-aside, first-refused}
 use Rattle.rules.specs.declared.records.Node.{Node}
 use Rattle.rules.specs.declared.records.Transaction.{Transaction}
-use Rattle.rules.specs.World.{World, Outcome, check, with-store, written-at, is-write-node}
+use Rattle.rules.specs.World.{World, Outcome, with-store, written-at, is-write-node}
 use Rattle.rules.specs.Changes.{has-no}
 use Rattle.rules.specs.Voting.{busy, overtaken-key, yes, vote-by-places, vote}
 use Rattle.catalogue.specs.declared.table.Table.{Table}
@@ -70,20 +66,3 @@ module _ (free : FreeRule) (table after : Table) (m store : Meaning) (t p : ℕ)
       (same-world (after .nodes .items) (table .nodes .items) (after .transactions .items) (set (table .transactions .items) (t - 1) (has-no p x)) (after .placement .items) (table .placement .items) store m nodes transactions placement store-is)
       ∙ ap (vote-by-places before t p x) (refused ∙ ap (first-refused free m p) (written-any table m x p))
       ∙ ap (vote free before t p x) none
-
--- ── Whether a node may vote ──
-
-abbrev pub voting : Bool → Bool → Bool → Result (Unit {0}) Refusal
-voting polled voted blocked = cond polled (cond (not voted) (cond (not blocked) (Ok tt) (Err Busy)) (Err AlreadyDone)) (Err NotPolled)
-
-pub may-not-blocked : (polled voted blocked : Bool) → polled ≡ true → voted ≡ false → blocked ≡ true → Err Busy ≡ voting polled voted blocked
-may-not-blocked polled voted blocked p v b = rw (p, v, b) refl
-
-pub may-free : (polled voted blocked : Bool) → polled ≡ true → voted ≡ false → blocked ≡ false → Ok tt ≡ voting polled voted blocked
-may-free polled voted blocked p v b = rw (p, v, b) refl
-
-pub may-not : (polled voted blocked : Bool) (refusal : Refusal) (w : World) (rest : Outcome) → Err refusal ≡ voting polled voted blocked → (Refused refusal, w) ≡ check polled w NotPolled (check (not voted) w AlreadyDone (check (not blocked) w Busy rest))
-may-not true false false refusal w rest is = cc
-may-not true false true refusal w rest is = cc
-may-not true true blocked refusal w rest is = cc
-may-not false voted blocked refusal w rest is = cc

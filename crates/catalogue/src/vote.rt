@@ -5,7 +5,7 @@ use calls::sizes::Stamp;
 
 /// A node's vote.
 #[derive(Clone, Copy)]
-pub enum Vote {
+pub(crate) enum Vote {
     /// The update's number at the node, or 0 where it writes nothing there.
     Yes {
         number: Stamp,

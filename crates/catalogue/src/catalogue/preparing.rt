@@ -1,14 +1,11 @@
 //! The vote of a node.
 
 ghost use mathlib.Core.Path.{_≡_};
-ghost use mathlib.Core.Bool.{true, false, not, cond};
+ghost use mathlib.Core.Bool.{true, false};
 ghost use Prim.Native.Nat.{_<_};
-ghost use Rattle.std.specs.Vec.{made};
-ghost use Rattle.std.specs.declared.result.Result.the-variants.{Ok, Err};
-ghost use Rattle.calls.specs.declared.refusal.Refusal.the-variants.{NotPolled, AlreadyDone, Busy};
 ghost use Rattle.clock.specs.Clocks.{marked};
 ghost use Rattle.store.specs.Model.{fresh};
-ghost use Rattle.rules.specs.World.{is-begun, node, transaction, bit};
+ghost use Rattle.rules.specs.World.{is-begun, node, transaction};
 ghost use Rattle.rules.specs.Voting.{busy, overtaken-key, vote, prepare-call};
 ghost use Rattle.catalogue.specs.Tables.{world-of};
 ghost use Rattle.catalogue.specs.Replies.{vote-answer, voted};

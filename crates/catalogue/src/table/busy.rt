@@ -39,13 +39,13 @@ impl Table {
     {
         let mut found = false;
         'transactions: for i in 0..self.transactions.len() {
-            let other = self.transactions[i];
+            let other = &self.transactions[i];
             let engaged = other.engaged[usize::from(p)];
             if i + 1 == usize::from(t) || !engaged {
                 continue;
             }
             for k in 0..64 {
-                if self.conflict_at(x, &other, p, k) {
+                if self.conflict_at(x, other, p, k) {
                     found = true;
                     break 'transactions;
                 }

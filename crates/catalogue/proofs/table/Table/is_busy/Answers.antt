@@ -1,22 +1,17 @@
 use mathlib.Core.Path.{_≡_, sym, _∙_, ap}
-use mathlib.Core.Bool.{true, false}
-use mathlib.Core.Logic.{⊎-elim}
-use Prim.Native.Nat.{ℕ, _+_, _-_, _<_}
+use mathlib.Core.Bool.{false}
+use Prim.Native.Nat.{_+_}
 use native.Mathlib.Omega.{arith}
 use borrow.Author.Count.{below-more}
-use lib.ListN.{length, getD}
-use Rattle.std.proofs.shelf.Lists.{getD-read-under}
+use lib.ListN.{length}
 use Rattle.clock.specs.Clocks.{marked}
 use Rattle.store.specs.Model.{fresh}
-use Rattle.rules.specs.declared.records.Kind.the-variants.{Search}
-use Rattle.rules.specs.declared.records.Transaction.{Transaction}
-use Rattle.rules.specs.World.{World, transaction, new-transaction, some-below}
+use Rattle.rules.specs.World.{World}
 use Rattle.rules.specs.Voting.{conflict-at, blocks, busy}
 use Rattle.rules.proofs.States.{some-from}
-use Rattle.catalogue.specs.declared.table.Table.{Table}
 use Rattle.catalogue.specs.Tables.{world-of}
 use Rattle.catalogue.proofs.Rows.{none-below}
-use Rattle.catalogue.proofs.Blocking.{blocks-not-itself, blocks-not-idle, blocks-not, blocks-here}
+use Rattle.catalogue.proofs.Blocking.{transaction-read, blocks-not-itself, blocks-not-idle, blocks-not, blocks-here}
 use Rattle.catalogue.proofs.table.Table.is_busy.Needs as need
 use Rattle.catalogue.proofs.table.Table.is_busy.Needs.{then-i-from·by·then-i-from, then-i-from·by·else-i-from·then-not-engaged}
 
@@ -31,12 +26,9 @@ returns-after-transactions c =
 pub transactions-again-then-i-from : need.transactions-again-then-i-from
 transactions-again-then-i-from c =
     let w : World = world-of (c .args .self .now) fresh in
-    let xs = c .args .self .now .transactions .items in
     let i = c .transactions .i in
-    let other = c .index .result .now in
-    let other-is : other ≡ transaction w (i + 1) =
-    getD-read-under xs i (c .args .self .now .transactions .len) other (new-transaction Search) (c .index .ensures) (omega arith) (c .args .self .now .transactions .ok .0)
-    ∙ ap (λ (n : ℕ). getD xs n (new-transaction Search)) (omega arith) in
+    let other = c .index-other .result .now in
+    let other-is = transaction-read (c .args .self .now) i other (c .index-other .ensures) (omega arith) in
     (
       c .transactions .inv .0,
       below-more (λ j. blocks w (c .args .t) (c .args .p) (j + 1) ≡ false) i (c .transactions .inv .1)
@@ -51,12 +43,9 @@ transactions-again-then-i-from c =
 pub transactions-again : need.transactions-again
 transactions-again c =
     let w : World = world-of (c .args .self .now) fresh in
-    let xs = c .args .self .now .transactions .items in
     let i = c .transactions .i in
-    let other = c .index .result .now in
-    let other-is : other ≡ transaction w (i + 1) =
-    getD-read-under xs i (c .args .self .now .transactions .len) other (new-transaction Search) (c .index .ensures) (omega arith) (c .args .self .now .transactions .ok .0)
-    ∙ ap (λ (n : ℕ). getD xs n (new-transaction Search)) (omega arith) in
+    let other = c .index-other .result .now in
+    let other-is = transaction-read (c .args .self .now) i other (c .index-other .ensures) (omega arith) in
     (
       c .loop-k .inv .0,
       below-more (λ j. blocks w (c .args .t) (c .args .p) (j + 1) ≡ false) i (c .transactions .inv .1)
@@ -71,14 +60,11 @@ pub returns-then-conflict-at : need.returns-then-conflict-at
 unfolding busy
 returns-then-conflict-at c =
     let w : World = world-of (c .args .self .now) fresh in
-    let xs = c .args .self .now .transactions .items in
     let i = c .transactions .i in
-    let other = c .index .result .now in
-    let other-is : other ≡ transaction w (i + 1) =
-    getD-read-under xs i (c .args .self .now .transactions .len) other (new-transaction Search) (c .index .ensures) (omega arith) (c .args .self .now .transactions .ok .0)
-    ∙ ap (λ (n : ℕ). getD xs n (new-transaction Search)) (omega arith) in
+    let other = c .index-other .result .now in
+    let other-is = transaction-read (c .args .self .now) i other (c .index-other .ensures) (omega arith) in
     let is-t = c .from-in-transactions .ensures in
-    sym (some-from (length xs) (λ j. blocks w (c .args .t) (c .args .p) (j + 1)) i (let long = c .args .self .now .transactions .ok .0 in omega arith)
+    sym (some-from (length (c .args .self .now .transactions .items)) (λ j. blocks w (c .args .t) (c .args .p) (j + 1)) i (let long = c .args .self .now .transactions .ok .0 in omega arith)
     (blocks-here w (c .args .t) (c .args .p) (i + 1) (c .args .x .now) other (c .pre .record) other-is
     (λ e. c .if-i-from .left (omega arith))
     (ap (marked (other .engaged)) (sym (c .from .ensures)) ∙ c .if-not-engaged .left)
