@@ -9,3 +9,8 @@ pub mod Answering
 pub mod Seeing
 pub mod Chains
 pub mod Noting
+pub mod Blocking
+pub mod Lowest
+pub mod Votes
+pub mod Known
+pub mod Outcomes

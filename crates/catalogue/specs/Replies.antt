@@ -3,8 +3,10 @@ use Prim.Native.Nat.{ℕ}
 use Rattle.std.specs.declared.result.Result.{Result}
 use Rattle.std.specs.declared.result.Result.the-variants.{Ok, Err}
 use Rattle.calls.specs.declared.answer.Answer.{Answer}
-use Rattle.calls.specs.declared.answer.Answer.the-variants.{Done, Begun, Found, Polled, Applied, Refused}
+use Rattle.calls.specs.declared.answer.Answer.the-variants.{Done, Begun, Found, Polled, Yes, NoOvertaken, NoPlace, Applied, Refused}
 use Rattle.calls.specs.declared.refusal.Refusal.{Refusal}
+use Rattle.catalogue.specs.declared.vote.Vote.{Vote}
+use Rattle.catalogue.specs.declared.vote.Vote.the-variants.{Yes as VoteYes, NoOvertaken as VoteOvertaken, NoPlace as VoteNoPlace}
 
 abbrev pub begun : Result ℕ Refusal → Answer
 begun (Ok t) = Begun t
@@ -25,3 +27,12 @@ polled (Err refusal) = Refused refusal
 abbrev pub applied : Result ℕ Refusal → Answer
 applied (Ok t) = Applied t
 applied (Err refusal) = Refused refusal
+
+abbrev pub vote-answer : Vote → Answer
+vote-answer (VoteYes number) = Yes number
+vote-answer (VoteOvertaken key) = NoOvertaken key
+vote-answer (VoteNoPlace key) = NoPlace key
+
+abbrev pub voted : Result Vote Refusal → Answer
+voted (Ok vote) = vote-answer vote
+voted (Err refusal) = Refused refusal

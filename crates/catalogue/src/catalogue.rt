@@ -5,6 +5,7 @@ use store::VersionStore;
 
 pub mod reading;
 pub mod seeing;
+pub mod preparing;
 pub mod simple;
 pub mod updating;
 

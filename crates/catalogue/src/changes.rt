@@ -16,6 +16,7 @@ use rules::records::Transaction;
 
 pub mod reading;
 pub mod writing;
+pub mod votes;
 
 /// A transaction as it begins.
 pub(crate) fn new_transaction(kind: Kind) -> Transaction

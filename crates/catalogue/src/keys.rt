@@ -5,7 +5,7 @@ ghost use mathlib.Core.Bool.{_&&_};
 ghost use Prim.Native.Nat.{_≤_, _<_};
 ghost use lib.ListN.{take};
 ghost use Rattle.store.specs.Model.{fresh};
-ghost use Rattle.rules.specs.World.{wrote, holds, written-at, is-write-node};
+ghost use Rattle.rules.specs.World.{noted, wrote, holds, written-at, is-write-node};
 ghost use Rattle.catalogue.specs.Tables.{world-of};
 use crate::table::Table;
 use calls::sizes::KeyNumber;
@@ -18,6 +18,17 @@ pub(crate) fn has_written(x: &Transaction, k: KeyNumber) -> bool
     ensures { λ r. ⌜ r ≡ wrote (now (x .entry)) k ⌝ }
 {
     match x.written[usize::from(k)] {
+        Some(_) => true,
+        None => false,
+    }
+}
+
+/// Whether an update has noted a key.
+pub(crate) fn has_noted(x: &Transaction, k: KeyNumber) -> bool
+    requires { ⌜ k < 64 ⌝ }
+    ensures { λ r. ⌜ r ≡ noted (now (x .entry)) k ⌝ }
+{
+    match x.noted[usize::from(k)] {
         Some(_) => true,
         None => false,
     }

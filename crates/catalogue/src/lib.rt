@@ -7,3 +7,5 @@ pub mod make;
 pub mod perform;
 mod rows;
 mod table;
+mod vote;
+mod voting;

@@ -9,6 +9,9 @@ use rules::records::Transaction;
 pub mod access;
 pub mod polling;
 pub mod visibility;
+pub mod busy;
+pub mod numbers;
+pub mod votes;
 
 /// The nodes; the transactions in the order of begin, with room for all that there can be; and for each key the byte of its holders.
 #[derive(Drop)]
