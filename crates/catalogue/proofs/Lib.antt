@@ -1,2 +1,4 @@
 pub mod Bounded
 pub mod Rows
+pub mod Stamps
+pub mod Worlds

@@ -3,8 +3,10 @@ use Prim.Native.Nat.{ℕ}
 use Rattle.std.specs.declared.result.Result.{Result}
 use Rattle.std.specs.declared.result.Result.the-variants.{Ok, Err}
 use Rattle.calls.specs.declared.answer.Answer.{Answer}
-use Rattle.calls.specs.declared.answer.Answer.the-variants.{Done, Begun, Found, Polled, Applied, Refused}
+use Rattle.calls.specs.declared.answer.Answer.the-variants.{Done, Begun, Found, Polled, Committed, Aborted, Applied, Refused}
 use Rattle.calls.specs.declared.refusal.Refusal.{Refusal}
+use Rattle.catalogue.specs.declared.decision.Decision.{Decision}
+use Rattle.catalogue.specs.declared.decision.Decision.the-variants.{Committed as commits, Aborted as aborts}
 
 abbrev pub begun : Result ℕ Refusal → Answer
 begun (Ok t) = Begun t
@@ -25,3 +27,8 @@ polled (Err refusal) = Refused refusal
 abbrev pub applied : Result ℕ Refusal → Answer
 applied (Ok t) = Applied t
 applied (Err refusal) = Refused refusal
+
+abbrev pub decided : Result Decision Refusal → Answer
+decided (Ok (commits stamp)) = Committed stamp
+decided (Ok aborts) = Aborted
+decided (Err refusal) = Refused refusal

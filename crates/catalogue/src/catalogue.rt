@@ -3,6 +3,7 @@
 use crate::table::Table;
 use store::VersionStore;
 
+pub mod deciding;
 pub mod simple;
 
 /// A catalogue over a version store.

@@ -2,5 +2,7 @@
 
 mod catalogue;
 mod changes;
+mod deciding;
+mod decision;
 mod keys;
 mod table;
