@@ -44,7 +44,7 @@ pub decided-more : (b c : ℕ) (x : Transaction) → b ≤ c → Decided-within 
 decided-more b c x l (commit, stamp, voted) = (clock-more b c (x .commit) l commit, omega arith, voted)
 
 -- One entry of a table is replaced, or one added.
-each-set : {X : Type 0} (P : X → Type 0) (xs : List X) (d y : X) (i : ℕ) → P y → ((j : ℕ) → P (getD xs j d)) → (j : ℕ) → P (getD (set xs i y) j d)
+pub each-set : {X : Type 0} (P : X → Type 0) (xs : List X) (d y : X) (i : ℕ) → P y → ((j : ℕ) → P (getD xs j d)) → (j : ℕ) → P (getD (set xs i y) j d)
 each-set {X} P xs d y i here all j =
     ⊎-elim
     (λ (inside : i < length xs).

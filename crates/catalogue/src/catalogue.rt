@@ -3,6 +3,7 @@
 use crate::table::Table;
 use store::VersionStore;
 
+pub mod applying;
 pub mod deciding;
 pub mod simple;
 

@@ -1,8 +1,10 @@
 //! The catalogue: ten calls over any version store.
 
+mod applying;
 mod catalogue;
 mod changes;
 mod deciding;
 mod decision;
 mod keys;
+mod releasing;
 mod table;

@@ -7,6 +7,7 @@ use rules::records::Node;
 use rules::records::Transaction;
 
 pub mod access;
+pub mod waiting;
 
 /// The nodes; the transactions in the order of begin, with room for all that there can be; and for each key the byte of its holders.
 #[derive(Drop)]
