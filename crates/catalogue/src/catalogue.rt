@@ -5,6 +5,7 @@ use store::VersionStore;
 
 pub mod applying;
 pub mod deciding;
+pub mod learning;
 pub mod simple;
 
 /// A catalogue over a version store.

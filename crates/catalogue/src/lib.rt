@@ -6,5 +6,6 @@ mod changes;
 mod deciding;
 mod decision;
 mod keys;
+mod learning;
 mod releasing;
 mod table;
