@@ -1,5 +1,5 @@
 pub mod Bounded
-pub mod Rows
+pub mod Collecting
 pub mod Makes
 pub mod Performs
 pub mod Counts
@@ -14,3 +14,7 @@ pub mod Lowest
 pub mod Votes
 pub mod Known
 pub mod Outcomes
+pub mod Stamps
+pub mod Worlds
+pub mod Puts
+pub mod Releases

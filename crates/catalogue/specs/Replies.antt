@@ -3,10 +3,12 @@ use Prim.Native.Nat.{ℕ}
 use Rattle.std.specs.declared.result.Result.{Result}
 use Rattle.std.specs.declared.result.Result.the-variants.{Ok, Err}
 use Rattle.calls.specs.declared.answer.Answer.{Answer}
-use Rattle.calls.specs.declared.answer.Answer.the-variants.{Done, Begun, Found, Polled, Yes, NoOvertaken, NoPlace, Applied, Refused}
+use Rattle.calls.specs.declared.answer.Answer.the-variants.{Done, Begun, Found, Polled, Yes, NoOvertaken, NoPlace, Committed, Aborted, Applied, Refused}
 use Rattle.calls.specs.declared.refusal.Refusal.{Refusal}
 use Rattle.catalogue.specs.declared.vote.Vote.{Vote}
 use Rattle.catalogue.specs.declared.vote.Vote.the-variants.{Yes as VoteYes, NoOvertaken as VoteOvertaken, NoPlace as VoteNoPlace}
+use Rattle.catalogue.specs.declared.decision.Decision.{Decision}
+use Rattle.catalogue.specs.declared.decision.Decision.the-variants.{Committed as commits, Aborted as aborts}
 
 abbrev pub begun : Result ℕ Refusal → Answer
 begun (Ok t) = Begun t
@@ -36,3 +38,8 @@ vote-answer (VoteNoPlace key) = NoPlace key
 abbrev pub voted : Result Vote Refusal → Answer
 voted (Ok vote) = vote-answer vote
 voted (Err refusal) = Refused refusal
+
+abbrev pub decided : Result Decision Refusal → Answer
+decided (Ok (commits stamp)) = Committed stamp
+decided (Ok aborts) = Aborted
+decided (Err refusal) = Refused refusal

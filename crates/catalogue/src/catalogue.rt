@@ -6,6 +6,9 @@ use store::VersionStore;
 pub mod reading;
 pub mod seeing;
 pub mod preparing;
+pub mod applying;
+pub mod deciding;
+pub mod learning;
 pub mod simple;
 pub mod updating;
 

@@ -12,6 +12,7 @@ pub mod visibility;
 pub mod busy;
 pub mod numbers;
 pub mod votes;
+pub mod waiting;
 
 /// The nodes; the transactions in the order of begin, with room for all that there can be; and for each key the byte of its holders.
 #[derive(Drop)]

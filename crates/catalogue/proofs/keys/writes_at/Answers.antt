@@ -5,7 +5,7 @@ use Rattle.store.specs.Model.{fresh}
 use Rattle.rules.specs.World.{wrote, holds, is-write-node}
 use Rattle.rules.proofs.States.{some-from}
 use Rattle.catalogue.specs.Tables.{world-of}
-use Rattle.catalogue.proofs.Rows.{none-below}
+use Rattle.catalogue.proofs.Collecting.{none-below}
 use Rattle.catalogue.proofs.keys.writes_at.Needs as need
 
 pub returns-then-writes-key : need.returns-then-writes-key

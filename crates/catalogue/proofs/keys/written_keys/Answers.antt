@@ -8,7 +8,7 @@ use Rattle.std.specs.shelf.Lists.{kept-by}
 use Rattle.store.specs.Model.{fresh}
 use Rattle.rules.specs.World.{wrote, holds, written-at}
 use Rattle.catalogue.specs.Tables.{world-of}
-use Rattle.catalogue.proofs.Rows.{kept-taken, kept-passed}
+use Rattle.catalogue.proofs.Collecting.{kept-taken, kept-passed}
 use Rattle.catalogue.proofs.keys.written_keys.Needs as need
 use Rattle.catalogue.proofs.keys.written_keys.Needs.{then-writes-key, else-writes-key}
 

@@ -10,7 +10,7 @@ use Rattle.rules.specs.World.{World}
 use Rattle.rules.specs.Voting.{conflict-at, blocks, busy}
 use Rattle.rules.proofs.States.{some-from}
 use Rattle.catalogue.specs.Tables.{world-of}
-use Rattle.catalogue.proofs.Rows.{none-below}
+use Rattle.catalogue.proofs.Collecting.{none-below}
 use Rattle.catalogue.proofs.Blocking.{transaction-read, blocks-not-itself, blocks-not-idle, blocks-not, blocks-here}
 use Rattle.catalogue.proofs.table.Table.is_busy.Needs as need
 use Rattle.catalogue.proofs.table.Table.is_busy.Needs.{then-i-from·by·then-i-from, then-i-from·by·else-i-from·then-not-engaged}

@@ -22,7 +22,7 @@ append-nil [] = refl
 append-nil (x ∷ l) = ap (λ r. x ∷ r) (append-nil l)
 
 -- Counting one further.
-counting-more : (a n : ℕ) → counting a (suc n) ≡ counting a n ++ (a + n) ∷ []
+pub counting-more : (a n : ℕ) → counting a (suc n) ≡ counting a n ++ (a + n) ∷ []
 counting-more a zero = ap (λ (x : ℕ). x ∷ []) (omega arith)
 counting-more a (suc n) = ap (λ l. a ∷ l) (counting-more (a + 1) n ∙ ap (λ (x : ℕ). counting (a + 1) n ++ x ∷ []) (omega arith))
 

@@ -1,0 +1,10 @@
+//! What a decide answers.
+
+use calls::sizes::Stamp;
+
+/// An update is committed with a stamp, or aborted.
+#[derive(Clone, Copy)]
+pub(crate) enum Decision {
+    Committed { stamp: Stamp },
+    Aborted,
+}
