@@ -38,8 +38,8 @@ pub folded-next : {B : Type 0} (f : B → ℕ → B) (a b : B) (i : ℕ) → b �
 folded-next {B} f a b i so-far =
     ap (λ (v : B). f v (i + 1)) so-far
     ∙ sym (ap (λ (n : ℕ). folded f a (counting 1 n)) (add-one i)
-        ∙ ap (folded f a) (counting-more 1 i ∙ ap (λ (n : ℕ). counting 1 i ++ n ∷ []) (omega arith))
-        ∙ folded-push f a (counting 1 i) (i + 1))
+    ∙ ap (folded f a) (counting-more 1 i ∙ ap (λ (n : ℕ). counting 1 i ++ n ∷ []) (omega arith))
+    ∙ folded-push f a (counting 1 i) (i + 1))
 
 -- The numbers that are kept of a range lie in it.
 low-cons : (b x : ℕ) (l : List ℕ) → x < b → ((i : ℕ) → i < length l → getD l i 0 < b) → (i : ℕ) → i < length (x ∷ l) → getD (x ∷ l) i 0 < b

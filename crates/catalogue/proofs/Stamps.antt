@@ -1,6 +1,6 @@
 -- The stamp of a commit lies within the bound on numbers, and the bound is low enough for a stamp.
-use mathlib.Core.Path.{_≡_, refl, sym, _∙_, ap, subst}
-use mathlib.Core.Bool.{Bool, true, false, cond, _&&_}
+use mathlib.Core.Path.{_≡_, refl, sym, _∙_, ap}
+use mathlib.Core.Bool.{Bool, true, false, cond}
 use mathlib.Core.List.{List, [], _∷_, map}
 use mathlib.Core.Logic.{⊎-elim}
 use Prim.Native.Nat.{ℕ, zero, suc, _+_, _*_, _^_, _<_, _≤_, max}
@@ -121,8 +121,8 @@ module _ (test : ℕ → Bool) (base : List ℕ) (number : ℕ) (commit : List �
   stamped-slot writes = (
     length-set commit q number ∙ so-far .0,
     below-more (λ k. getD (set commit q number) k 0 ≡ cond (test k) number (slot base k)) q
-    (λ k l. getD-set-other commit q k number 0 (omega arith) ∙ so-far .1 k l)
-    (getD-set-same commit q number 0 (omega arith) ∙ sym (cond-true (test q) number (slot base q) writes)),
+        (λ k l. getD-set-other commit q k number 0 (omega arith) ∙ so-far .1 k l)
+        (getD-set-same commit q number 0 (omega arith) ∙ sym (cond-true (test q) number (slot base q) writes)),
     λ k l. getD-set-other commit q k number 0 (omega arith) ∙ so-far .2 k (omega arith),
   )
 

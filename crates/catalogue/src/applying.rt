@@ -37,6 +37,13 @@ pub(crate) fn put_all<S: VersionStore>(
     ensures rule { λ _. ⌜ S·VersionStore .free (now (store .exit)) ≡ S·VersionStore .free (now (store .entry)) ⌝ }
 {
     for k in keys {
-        let _ = store.put(p, *k, Version { value: written_value(x, *k), writer: t });
+        let _ = store.put(
+            p,
+            *k,
+            Version {
+                value: written_value(x, *k),
+                writer: t,
+            },
+        );
     }
 }

@@ -90,5 +90,10 @@ pub(crate) fn committed(table: &Table, t: TransactionNumber, x: Transaction) -> 
 {
     let number = stamp_of(table, t, &x);
     let commit = stamped(table, &x, number);
-    Transaction { state: State::Committed, stamp: number, commit, ..x }
+    Transaction {
+        state: State::Committed,
+        stamp: number,
+        commit,
+        ..x
+    }
 }

@@ -49,19 +49,29 @@ pub(crate) fn numbered(x: Transaction, p: NodeNumber) -> Transaction
 pub(crate) fn counted(n: Node, stamp: Stamp) -> Node
     ensures { λ r. ⌜ r ≡ counted (max (n .counter) stamp) n ⌝ }
 {
-    Node { counter: n.counter.max(stamp), ..n }
+    Node {
+        counter: n.counter.max(stamp),
+        ..n
+    }
 }
 
 /// The node, with this commit clock taken into its seen clock.
 pub(crate) fn has_seen(n: Node, commit: Clock) -> Node
     ensures { λ r. ⌜ r ≡ has-seen commit n ⌝ }
 {
-    Node { seen: join(n.seen, commit), ..n }
+    Node {
+        seen: join(n.seen, commit),
+        ..n
+    }
 }
 
 /// The node, with this commit clock taken into its seen clock and this stamp for its frontier.
 pub(crate) fn advanced(n: Node, stamp: Stamp, commit: Clock) -> Node
     ensures { λ r. ⌜ r ≡ advanced stamp (has-seen commit n) ⌝ }
 {
-    Node { frontier: stamp, seen: join(n.seen, commit), ..n }
+    let seen = has_seen(n, commit);
+    Node {
+        frontier: stamp,
+        ..seen
+    }
 }

@@ -7,15 +7,9 @@ use calls::sizes::Stamp;
 #[derive(Clone, Copy)]
 pub(crate) enum Vote {
     /// The update's number at the node, or 0 where it writes nothing there.
-    Yes {
-        number: Stamp,
-    },
+    Yes { number: Stamp },
     /// The lowest key that the update has noted and of which the node holds a newer version.
-    NoOvertaken {
-        key: KeyNumber,
-    },
+    NoOvertaken { key: KeyNumber },
     /// The lowest key that the update writes and for which the node has no place left.
-    NoPlace {
-        key: KeyNumber,
-    },
+    NoPlace { key: KeyNumber },
 }

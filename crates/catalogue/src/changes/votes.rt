@@ -20,7 +20,11 @@ pub(crate) fn voted_no(x: Transaction, p: NodeNumber) -> Transaction
 {
     let mut voted = x.voted;
     voted[usize::from(p)] = true;
-    Transaction { voted, refused: true, ..x }
+    Transaction {
+        voted,
+        refused: true,
+        ..x
+    }
 }
 
 /// The transaction after a node's yes, which carries the node's seen clock.
@@ -34,7 +38,12 @@ pub(crate) fn voted_yes(x: Transaction, p: NodeNumber, seen: Clock) -> Transacti
     let mut engaged = x.engaged;
     engaged[usize::from(p)] = true;
     let votes = join(x.votes, seen);
-    Transaction { voted, engaged, votes, ..x }
+    Transaction {
+        voted,
+        engaged,
+        votes,
+        ..x
+    }
 }
 
 /// The transaction after a node's yes that gave it a number.

@@ -58,7 +58,13 @@ impl Table {
         }
         let number = self.next_number(n.counter, t);
         self.raise(t, numbered_yes(x, p, n.seen, number));
-        self.set_node(p, Node { counter: number, ..n });
+        self.set_node(
+            p,
+            Node {
+                counter: number,
+                ..n
+            },
+        );
         number
     }
 }

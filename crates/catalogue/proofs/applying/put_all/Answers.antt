@@ -1,4 +1,4 @@
-use mathlib.Core.Path.{_≡_, refl, sym, _∙_, ap}
+use mathlib.Core.Path.{refl, sym, _∙_, ap}
 use lib.ListN.{getD}
 use lib.Seq.{take-all}
 use Prim.Native.Nat.{ℕ}

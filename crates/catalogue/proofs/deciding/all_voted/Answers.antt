@@ -16,7 +16,7 @@ returns-then-not-x-from c =
     let voted = marked (x .voted) (c .loop-p .p) in
     let open-vote : voted ≡ false = ap (marked (x .voted)) (sym (c .from .ensures)) ∙ c .if-not-x-from .taken in
     sym (all-fails 8 (λ k. not (bit (x .polled) k) || marked (x .voted) k) (c .loop-p .p) (c .loop-p-test .taken)
-        (or-from (not polled) voted (not-from-true polled (sym (c .if-polls .ensures tt))) open-vote))
+    (or-from (not polled) voted (not-from-true polled (sym (c .if-polls .ensures tt))) open-vote))
 
 pub returns : need.returns
 unfolding all-voted

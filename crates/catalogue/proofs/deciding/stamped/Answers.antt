@@ -1,4 +1,4 @@
-use mathlib.Core.Path.{_≡_, sym, _∙_, ap, subst}
+use mathlib.Core.Path.{sym, _∙_, ap, subst}
 use mathlib.Core.Bool.{Bool, cond}
 use mathlib.Core.List.{List}
 use Prim.Native.Nat.{ℕ, _+_}
@@ -22,11 +22,11 @@ loop-q-again c =
     let q = c .loop-q .q in
     elim (c .if-writes-at .came) [
       | then-writes-at w ↦
-        subst (λ (row : List ℕ). Stamped-to test base number row (q + 1)) (sym (w .commit-is ∙ ap (λ (i : ℕ). set (c .loop-q .commit) i number) (w .from .ensures)))
-        (stamped-slot test base number (c .loop-q .commit) q (c .loop-q-test .taken) (c .loop-q .inv) (sym (c .writes-at .ensures) ∙ w .if-writes-at .taken))
+          subst (λ (row : List ℕ). Stamped-to test base number row (q + 1)) (sym (w .commit-is ∙ ap (λ (i : ℕ). set (c .loop-q .commit) i number) (w .from .ensures)))
+          (stamped-slot test base number (c .loop-q .commit) q (c .loop-q-test .taken) (c .loop-q .inv) (sym (c .writes-at .ensures) ∙ w .if-writes-at .taken))
       | else-writes-at w ↦
-        subst (λ (row : List ℕ). Stamped-to test base number row (q + 1)) (sym (w .commit-is))
-        (kept-slot test base number (c .loop-q .commit) q (c .loop-q-test .taken) (c .loop-q .inv) (sym (c .writes-at .ensures) ∙ w .if-writes-at .left))
+          subst (λ (row : List ℕ). Stamped-to test base number row (q + 1)) (sym (w .commit-is))
+          (kept-slot test base number (c .loop-q .commit) q (c .loop-q-test .taken) (c .loop-q .inv) (sym (c .writes-at .ensures) ∙ w .if-writes-at .left))
     ]
 
 pub returns : need.returns

@@ -1,10 +1,8 @@
-use mathlib.Core.Path.{_≡_, refl, sym, _∙_, ap, subst}
+use mathlib.Core.Path.{refl, _∙_, ap, subst}
 use Prim.Native.Nat.{_-_}
 use lib.ListN.{set}
 use Rattle.rules.specs.declared.records.Transaction.{Transaction}
-use Rattle.store.specs.Model.{fresh}
 use Rattle.catalogue.specs.Bounds.{most, Raises}
-use Rattle.catalogue.specs.Tables.{world-of}
 use Rattle.catalogue.proofs.Worlds.{worlds-same, committed-any}
 use Rattle.catalogue.proofs.catalogue.Catalogue.commit.Needs as need
 

@@ -1,4 +1,4 @@
-use mathlib.Core.Path.{_≡_, refl, sym, _∙_, ap, subst}
+use mathlib.Core.Path.{refl, sym, _∙_, ap, subst}
 use mathlib.Core.List.{List}
 use Prim.Native.Nat.{_-_, max}
 use lib.ListN.{set}
@@ -40,7 +40,7 @@ returns-then-writes-at g c =
           (c .set-node .ensures .nodes ∙ (ap (λ (l : List Node). set l p (c .counted .result)) (c .update .ensures .nodes) ∙ ap (λ (n : Node). set (table .nodes .items) p n) node-is))
           (c .set-node .ensures .transactions ∙ (c .update .ensures .transactions ∙ ap (λ (y : Transaction). set (table .transactions .items) (t - 1) y) (c .numbered .ensures)))
           (c .set-node .ensures .placement ∙ c .update .ensures .placement)
-      ∙ ap (learn-commit (world-of table m) t p x) (sym writes);
+          ∙ ap (learn-commit (world-of table m) t p x) (sym writes);
       rule = refl;
     }
 
@@ -58,6 +58,6 @@ returns-else-writes-at g c =
           (c .set-node-else-writes-at .ensures .nodes ∙ (ap (λ (l : List Node). set l p (c .has-seen .result)) (c .update-else-writes-at .ensures .nodes) ∙ ap (λ (n : Node). set (table .nodes .items) p n) node-is))
           (c .set-node-else-writes-at .ensures .transactions ∙ (c .update-else-writes-at .ensures .transactions ∙ ap (λ (y : Transaction). set (table .transactions .items) (t - 1) y) (c .released .ensures)))
           (c .set-node-else-writes-at .ensures .placement ∙ c .update-else-writes-at .ensures .placement)
-      ∙ ap (learn-commit (world-of table m) t p x) (sym writes-not);
+          ∙ ap (learn-commit (world-of table m) t p x) (sym writes-not);
       rule = refl;
     }

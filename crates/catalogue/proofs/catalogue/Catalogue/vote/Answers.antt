@@ -7,8 +7,8 @@ returns-in-Ok g c =
     let told = c .in-Ok .ensures tt in
     record {
       outcome =
-        voted-yes (g .S·VersionStore .free (self .store)) (self .table) (c .vote-yes-number .last .self) (g .S·VersionStore .meaning (self .store)) (g .S·VersionStore .meaning (c .set-places .last .store)) (c .args .t) (c .args .p) (c .args .x) (c .in-rest .ensures tt)
-        (c .in-Ok .field-0) (c .vote-yes-number .result) (told .answer) (told .after) (c .vote-yes-number .ensures);
+          voted-yes (g .S·VersionStore .free (self .store)) (self .table) (c .vote-yes-number .last .self) (g .S·VersionStore .meaning (self .store)) (g .S·VersionStore .meaning (c .set-places .last .store)) (c .args .t) (c .args .p) (c .args .x) (c .in-rest .ensures tt)
+          (c .in-Ok .field-0) (c .vote-yes-number .result) (told .answer) (told .after) (c .vote-yes-number .ensures);
       rule = told .rule;
     }
 
@@ -19,7 +19,7 @@ returns-in-Err g c =
     let after = c .vote-no-in-Err .ensures in
     record {
       outcome =
-        voted-no-place (g .S·VersionStore .free (self .store)) (self .table) (c .vote-no-in-Err .last .self) (g .S·VersionStore .meaning (self .store)) (g .S·VersionStore .meaning (c .set-places .last .store)) (c .args .t) (c .args .p) (c .args .x) (c .in-rest .ensures tt)
-        (c .in-Err .key) (told .answer) (told .after) (after .transactions) (after .nodes) (after .placement);
+          voted-no-place (g .S·VersionStore .free (self .store)) (self .table) (c .vote-no-in-Err .last .self) (g .S·VersionStore .meaning (self .store)) (g .S·VersionStore .meaning (c .set-places .last .store)) (c .args .t) (c .args .p) (c .args .x) (c .in-rest .ensures tt)
+          (c .in-Err .key) (told .answer) (told .after) (after .transactions) (after .nodes) (after .placement);
       rule = told .rule;
     }

@@ -28,16 +28,15 @@ transactions-again-then-i-from c =
     let w : World = world-of (c .args .self .now) fresh in
     let i = c .transactions .i in
     let other = c .index-other .result .now in
-    let other-is = transaction-read (c .args .self .now) i other (c .index-other .ensures) (omega arith) in
-    (
+    let other-is = transaction-read (c .args .self .now) i other (c .index-other .ensures) (omega arith) in (
       c .transactions .inv .0,
       below-more (λ j. blocks w (c .args .t) (c .args .p) (j + 1) ≡ false) i (c .transactions .inv .1)
-      (elim (c .then-i-from .came) [
-        | then-i-from·by·then-i-from v ↦ blocks-not-itself w (c .args .t) (c .args .p) (i + 1) (c .args .x .now) other (c .pre .record) other-is (omega (arith, v .if-i-from .taken))
-        | then-i-from·by·else-i-from·then-not-engaged v ↦
-          blocks-not-idle w (c .args .t) (c .args .p) (i + 1) (c .args .x .now) other (c .pre .record) other-is
-          (ap (marked (other .engaged)) (sym (c .from .ensures)) ∙ v .if-not-engaged .taken)
-      ]),
+          (elim (c .then-i-from .came) [
+            | then-i-from·by·then-i-from v ↦ blocks-not-itself w (c .args .t) (c .args .p) (i + 1) (c .args .x .now) other (c .pre .record) other-is (omega (arith, v .if-i-from .taken))
+            | then-i-from·by·else-i-from·then-not-engaged v ↦
+                blocks-not-idle w (c .args .t) (c .args .p) (i + 1) (c .args .x .now) other (c .pre .record) other-is
+                (ap (marked (other .engaged)) (sym (c .from .ensures)) ∙ v .if-not-engaged .taken)
+          ]),
     )
 
 pub transactions-again : need.transactions-again
@@ -45,12 +44,11 @@ transactions-again c =
     let w : World = world-of (c .args .self .now) fresh in
     let i = c .transactions .i in
     let other = c .index-other .result .now in
-    let other-is = transaction-read (c .args .self .now) i other (c .index-other .ensures) (omega arith) in
-    (
+    let other-is = transaction-read (c .args .self .now) i other (c .index-other .ensures) (omega arith) in (
       c .loop-k .inv .0,
       below-more (λ j. blocks w (c .args .t) (c .args .p) (j + 1) ≡ false) i (c .transactions .inv .1)
-      (blocks-not w (c .args .t) (c .args .p) (i + 1) (c .args .x .now) other (c .pre .record) other-is
-      (none-below 64 (conflict-at w (c .args .x .now) other (c .args .p)) (λ k l. c .loop-k .inv .1 k (omega arith)))),
+          (blocks-not w (c .args .t) (c .args .p) (i + 1) (c .args .x .now) other (c .pre .record) other-is
+          (none-below 64 (conflict-at w (c .args .x .now) other (c .args .p)) (λ k l. c .loop-k .inv .1 k (omega arith)))),
     )
 
 pub loop-k-again : need.loop-k-again
