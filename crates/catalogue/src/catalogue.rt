@@ -3,12 +3,12 @@
 use crate::table::Table;
 use store::VersionStore;
 
-pub mod reading;
-pub mod seeing;
-pub mod preparing;
 pub mod applying;
 pub mod deciding;
 pub mod learning;
+pub mod preparing;
+pub mod reading;
+pub mod seeing;
 pub mod simple;
 pub mod updating;
 

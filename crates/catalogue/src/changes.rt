@@ -15,8 +15,8 @@ use rules::records::State;
 use rules::records::Transaction;
 
 pub mod reading;
-pub mod writing;
 pub mod votes;
+pub mod writing;
 
 /// A transaction as it begins.
 pub(crate) fn new_transaction(kind: Kind) -> Transaction

@@ -4,7 +4,7 @@ use calls::sizes::Stamp;
 
 /// An update is committed with a stamp, or aborted.
 #[derive(Clone, Copy)]
-pub(crate) enum Decision {
+pub enum Decision {
     Committed { stamp: Stamp },
     Aborted,
 }

@@ -1,16 +1,16 @@
 //! The catalogue: ten calls over any version store.
 
-pub mod catalogue;
 mod applying;
+pub mod catalogue;
 mod changes;
 mod deciding;
-mod decision;
+pub mod decision;
 mod keys;
+mod learning;
 pub mod make;
 pub mod perform;
-mod rows;
-mod learning;
 mod releasing;
+mod rows;
 mod table;
-mod vote;
+pub mod vote;
 mod voting;

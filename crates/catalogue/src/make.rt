@@ -23,9 +23,7 @@ use store::VersionStore;
 #[derive(Clone, Copy)]
 pub enum MakeError {
     /// The counts or the placement are not those of a catalogue.
-    Refused {
-        refusal: Refusal,
-    },
+    Refused { refusal: Refusal },
     /// There is not enough memory.
     OutOfMemory,
 }
@@ -80,7 +78,12 @@ pub(crate) fn can_make(nodes: u8, keys: u8, placement: &[u8]) -> bool
 
 impl<S: VersionStore> Catalogue<S> {
     /// A new catalogue over a new store. It takes all the memory that it will ever need.
-    pub fn make(heap: Global, nodes: u8, keys: u8, placement: &[u8]) -> Result<Catalogue<S>, MakeError>
+    pub fn make(
+        heap: Global,
+        nodes: u8,
+        keys: u8,
+        placement: &[u8],
+    ) -> Result<Catalogue<S>, MakeError>
         ensures { λ r. ⌜ ByOk r (λ c. (can-make nodes keys (now (placement .entry)) ≡ true) × (world-of (c .table) (S·VersionStore .meaning (c .store)) ≡ made-world nodes (now (placement .entry)))) (λ e. Why-not-made nodes keys (now (placement .entry)) e) ⌝ }
     {
         if !can_make(nodes, keys, placement) {

@@ -7,10 +7,10 @@ use rules::records::Node;
 use rules::records::Transaction;
 
 pub mod access;
-pub mod polling;
-pub mod visibility;
 pub mod busy;
 pub mod numbers;
+pub mod polling;
+pub mod visibility;
 pub mod votes;
 pub mod waiting;
 

@@ -5,7 +5,7 @@ use calls::sizes::Stamp;
 
 /// A node's vote.
 #[derive(Clone, Copy)]
-pub(crate) enum Vote {
+pub enum Vote {
     /// The update's number at the node, or 0 where it writes nothing there.
     Yes { number: Stamp },
     /// The lowest key that the update has noted and of which the node holds a newer version.

@@ -72,8 +72,8 @@ abbrev pub Refines : FreeRule → World → Request → Type 0
 Refines free w request =
     ((step free w request .1 ≡ w) × (told request (step free w request .0) ≡ transcript.nothing))
     ⊎ ((e : Event) × Accepted (placed (w .placement)) 256 (view w) e
-      × (view (step free w request .1) ≡ next (placed (w .placement)) (view w) e)
-      × (told request (step free w request .0) ≡ told-by (mark e)))
+    × (view (step free w request .1) ≡ next (placed (w .placement)) (view w) e)
+    × (told request (step free w request .0) ≡ told-by (mark e)))
 
 -- The lemma that each call owes: the placement and the number of nodes stay, the invariant is kept, and the call refines the protocol.
 pub record Good-step (free : FreeRule) (w : World) (request : Request) : Type 0 where

@@ -40,17 +40,24 @@ status-of Finished = protocol.Finished
 
 abbrev pub transaction-of : Transaction → protocol.Transaction
 transaction-of x = record {
-  kind = kind-of (x .kind); status = status-of (x .state);
+  kind = kind-of (x .kind);
+  status = status-of (x .state);
   reading = record { clock = λ q. slot (x .clock) q; read-at = λ q. marked (x .read) q; noted = λ k. noted x k; noted-writer = λ k. value-or (getD (x .noted) k None) 0 };
   writing = record { wrote = λ k. wrote x k; value = λ k. written-value x k };
-  outcome = record { refused = x .refused; vote-clock = λ q. slot (x .votes) q; stamp = x .stamp; commit-clock = λ q. slot (x .commit) q } }
+  outcome = record { refused = x .refused; vote-clock = λ q. slot (x .votes) q; stamp = x .stamp; commit-clock = λ q. slot (x .commit) q };
+}
 
 abbrev pub node-of : Node → protocol.Node
 node-of n = record { counter = n .counter; frontier = n .frontier; seen = λ q. slot (n .seen) q }
 
 abbrev pub participation-of : Transaction → ℕ → protocol.Participation
 participation-of x p = record {
-  voted = marked (x .voted) p; engaged = marked (x .engaged) p; number = slot (x .numbers) p; learned = marked (x .learned) p; applied = marked (x .applied) p }
+  voted = marked (x .voted) p;
+  engaged = marked (x .engaged) p;
+  number = slot (x .numbers) p;
+  learned = marked (x .learned) p;
+  applied = marked (x .applied) p;
+}
 
 abbrev pub version-of : Stored → Version
 version-of v = version (v .value) (v .writer)
@@ -65,7 +72,8 @@ view w = record {
   transaction = λ t. cond (is-begun w t) (transaction-of (transaction w t)) (fresh .transaction t);
   node = λ p. node-of (node w p);
   participation = λ t p. cond (is-begun w t) (participation-of (transaction w t) p) (fresh .participation t p);
-  chain = λ p k. map version-of (without-last (w .store p k .versions)) }
+  chain = λ p k. map version-of (without-last (w .store p k .versions));
+}
 
 -- What an event's mark tells, in the words of transcripts.
 abbrev pub told-by : Mark → Told

@@ -23,7 +23,7 @@ use store::VersionStore;
 
 impl<S: VersionStore> Catalogue<S> {
     /// Applies at a node the update that waits there with the least number, and gives the update.
-    pub(crate) fn apply(&mut self, p: NodeNumber) -> Result<TransactionNumber, Refusal>
+    pub fn apply(&mut self, p: NodeNumber) -> Result<TransactionNumber, Refusal>
         ensures call { λ r. ⌜ (applied r, world-of (now (self .exit) .table) (S·VersionStore .meaning (now (self .exit) .store))) ≡ apply-call (world-of (now (self .entry) .table) (S·VersionStore .meaning (now (self .entry) .store))) p ⌝ }
         ensures rule { λ r. ⌜ S·VersionStore .free (now (self .exit) .store) ≡ S·VersionStore .free (now (self .entry) .store) ⌝ }
     {

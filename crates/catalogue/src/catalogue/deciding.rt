@@ -26,7 +26,7 @@ use store::VersionStore;
 
 impl<S: VersionStore> Catalogue<S> {
     /// Aborts an offered update that a node voted against, and commits one that all polled nodes voted for.
-    pub(crate) fn decide(&mut self, t: TransactionNumber) -> Result<Decision, Refusal>
+    pub fn decide(&mut self, t: TransactionNumber) -> Result<Decision, Refusal>
         ensures call { λ r. ⌜ (decided r, world-of (now (self .exit) .table) (S·VersionStore .meaning (now (self .exit) .store))) ≡ decide-call (world-of (now (self .entry) .table) (S·VersionStore .meaning (now (self .entry) .store))) t ⌝ }
         ensures rule { λ r. ⌜ S·VersionStore .free (now (self .exit) .store) ≡ S·VersionStore .free (now (self .entry) .store) ⌝ }
     {

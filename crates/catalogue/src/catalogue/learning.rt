@@ -28,7 +28,7 @@ use store::VersionStore;
 
 impl<S: VersionStore> Catalogue<S> {
     /// Lets a node that an update polled learn its decision.
-    pub(crate) fn learn(&mut self, t: TransactionNumber, p: NodeNumber) -> Result<(), Refusal>
+    pub fn learn(&mut self, t: TransactionNumber, p: NodeNumber) -> Result<(), Refusal>
         ensures call { λ r. ⌜ (done r, world-of (now (self .exit) .table) (S·VersionStore .meaning (now (self .exit) .store))) ≡ learn-call (world-of (now (self .entry) .table) (S·VersionStore .meaning (now (self .entry) .store))) t p ⌝ }
         ensures rule { λ r. ⌜ S·VersionStore .free (now (self .exit) .store) ≡ S·VersionStore .free (now (self .entry) .store) ⌝ }
     {

@@ -60,7 +60,7 @@ impl<S: VersionStore> Catalogue<S> {
     }
 
     /// Asks a node to vote on an offered update.
-    pub(crate) fn prepare(&mut self, t: TransactionNumber, p: NodeNumber) -> Result<Vote, Refusal>
+    pub fn prepare(&mut self, t: TransactionNumber, p: NodeNumber) -> Result<Vote, Refusal>
         ensures outcome { λ r. ⌜ (voted r, world-of (now (self .exit) .table) (S·VersionStore .meaning (now (self .exit) .store))) ≡ prepare-call (S·VersionStore .free (now (self .entry) .store)) (world-of (now (self .entry) .table) (S·VersionStore .meaning (now (self .entry) .store))) t p ⌝ }
         ensures rule { λ r. ⌜ S·VersionStore .free (now (self .exit) .store) ≡ S·VersionStore .free (now (self .entry) .store) ⌝ }
     {

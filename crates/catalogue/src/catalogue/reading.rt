@@ -26,7 +26,7 @@ use store::VersionStore;
 
 impl<S: VersionStore> Catalogue<S> {
     /// The value of a key at a node, with its writer.
-    pub(crate) fn read(
+    pub fn read(
         &mut self,
         t: TransactionNumber,
         k: KeyNumber,

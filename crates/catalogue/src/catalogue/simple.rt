@@ -16,7 +16,7 @@ use store::VersionStore;
 
 impl<S: VersionStore> Catalogue<S> {
     /// Opens a search or an update, and gives its number.
-    pub(crate) fn begin(&mut self, kind: Kind) -> Result<TransactionNumber, Refusal>
+    pub fn begin(&mut self, kind: Kind) -> Result<TransactionNumber, Refusal>
         ensures step { λ r. ⌜ (begun r, world-of (now (self .exit) .table) (S·VersionStore .meaning (now (self .exit) .store))) ≡ begin-call (world-of (now (self .entry) .table) (S·VersionStore .meaning (now (self .entry) .store))) kind ⌝ }
         ensures rule { λ r. ⌜ S·VersionStore .free (now (self .exit) .store) ≡ S·VersionStore .free (now (self .entry) .store) ⌝ }
     {
@@ -29,7 +29,7 @@ impl<S: VersionStore> Catalogue<S> {
     }
 
     /// Aborts an open or offered update.
-    pub(crate) fn cancel(&mut self, t: TransactionNumber) -> Result<(), Refusal>
+    pub fn cancel(&mut self, t: TransactionNumber) -> Result<(), Refusal>
         ensures step { λ r. ⌜ (done r, world-of (now (self .exit) .table) (S·VersionStore .meaning (now (self .exit) .store))) ≡ cancel-call (world-of (now (self .entry) .table) (S·VersionStore .meaning (now (self .entry) .store))) t ⌝ }
         ensures rule { λ r. ⌜ S·VersionStore .free (now (self .exit) .store) ≡ S·VersionStore .free (now (self .entry) .store) ⌝ }
     {
@@ -40,7 +40,7 @@ impl<S: VersionStore> Catalogue<S> {
     }
 
     /// Ends a search.
-    pub(crate) fn finish(&mut self, t: TransactionNumber) -> Result<(), Refusal>
+    pub fn finish(&mut self, t: TransactionNumber) -> Result<(), Refusal>
         ensures step { λ r. ⌜ (done r, world-of (now (self .exit) .table) (S·VersionStore .meaning (now (self .exit) .store))) ≡ finish-call (world-of (now (self .entry) .table) (S·VersionStore .meaning (now (self .entry) .store))) t ⌝ }
         ensures rule { λ r. ⌜ S·VersionStore .free (now (self .exit) .store) ≡ S·VersionStore .free (now (self .entry) .store) ⌝ }
     {

@@ -19,7 +19,7 @@ use store::VersionStore;
 
 impl<S: VersionStore> Catalogue<S> {
     /// Gives an update a value for a key.
-    pub(crate) fn write(
+    pub fn write(
         &mut self,
         t: TransactionNumber,
         k: KeyNumber,
@@ -39,7 +39,7 @@ impl<S: VersionStore> Catalogue<S> {
     }
 
     /// Offers an update to the nodes that hold a key that it noted or wrote, and answers how many they are.
-    pub(crate) fn offer(&mut self, t: TransactionNumber) -> Result<u8, Refusal>
+    pub fn offer(&mut self, t: TransactionNumber) -> Result<u8, Refusal>
         ensures value { λ r. ⌜ (polled r, world-of (now (self .exit) .table) (S·VersionStore .meaning (now (self .exit) .store))) ≡ offer-call (world-of (now (self .entry) .table) (S·VersionStore .meaning (now (self .entry) .store))) t ⌝ }
         ensures rule { λ r. ⌜ S·VersionStore .free (now (self .exit) .store) ≡ S·VersionStore .free (now (self .entry) .store) ⌝ }
     {
