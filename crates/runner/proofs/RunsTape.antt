@@ -51,7 +51,7 @@ module _ (free : FreeRule) (es : List Entry) (lines : List Line) (now after : Op
       let there : on-content free now (e .1) ≡ on-content free (world-from free None es) (e .1) = ap (λ (u : Option World). on-content free u (e .1)) (so-far .world) in
       record {
         listed = pushed ∙ (ap (λ (l : List Line). l ++ record { place = e .0; answer = a } ∷ []) (so-far .listed)
-        ∙ (ap (λ (o : UnitOutcome). lines-from free None es ++ record { place = e .0; answer = o .0 } ∷ []) (is ∙ there) ∙ sym (lines-push free None es e)));
+            ∙ (ap (λ (o : UnitOutcome). lines-from free None es ++ record { place = e .0; answer = o .0 } ∷ []) (is ∙ there) ∙ sym (lines-push free None es e)));
         world = ap (λ (o : UnitOutcome). o .1) (is ∙ there) ∙ sym (world-push free None es e);
       }
 

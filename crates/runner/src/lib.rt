@@ -11,11 +11,11 @@ ghost use Rattle.store.specs.Model.{FreeRule};
 ghost use Rattle.catalogue.specs.Tables.{world-of};
 ghost use Rattle.runner.specs.Running.{first-step, on-content, unit-world, Counts-by, Records-run, Tape-run};
 ghost use Rattle.runner.specs.declared.RunError.the-variants.{OutOfMemory};
-use catalogue::catalogue::Catalogue;
-use catalogue::make::MakeError;
 use calls::answer::Answer;
 use calls::call::Call;
 use calls::refusal::Refusal;
+use catalogue::catalogue::Catalogue;
+use catalogue::make::MakeError;
 use listing::line::Line;
 use std::alloc::Global;
 use std::alloc::Refused;
@@ -99,10 +99,7 @@ fn on_record<S: VersionStore>(
 }
 
 /// Runs some records on a new unit.
-fn run_records<S: VersionStore>(
-    heap: Global,
-    records: &[Record<'_>],
-) -> Result<Report<S>, RunError>
+fn run_records<S: VersionStore>(heap: Global, records: &[Record<'_>]) -> Result<Report<S>, RunError>
     ensures { λ r. ⌜ ByOk r (λ o. (free : FreeRule) → Counts-by (λ c. S·VersionStore .free (c .store)) free (o .catalogue) → Records-run free (map entry-of (now (records .entry))) (vec-items (o .lines)) (unit-world (λ c. world-of (c .table) (S·VersionStore .meaning (c .store))) (o .catalogue))) (λ e. e ≡ OutOfMemory) ⌝ }
 {
     let mut lines = Vec::new(heap);
