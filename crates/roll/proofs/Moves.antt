@@ -4,7 +4,7 @@ use mathlib.Core.Bool.{true, false, cond}
 use mathlib.Core.List.{List, [], _∷_, _++_}
 use Prim.Native.Nat.{ℕ, _+_, _-_, _*_, _<_, _≤_, _^_}
 use native.Mathlib.Omega.{arith}
-use lib.ListN.{length, getD, set, take, replicate}
+use lib.ListN.{length, getD, set, replicate}
 use Rattle.std.proofs.shelf.Lists.{getD-read-under}
 use Rattle.std.proofs.shelf.Tests.{cond-true}
 use Rattle.std.proofs.shelf.Ways.{tells}
@@ -114,10 +114,8 @@ module _ (r : Roll) (e : Entry) (hn : e .node < 8) (hk : e .key < 64) (es : List
       let after = room-of (entered es (r .aside .items)) (r .entries .len + 1) (r .total) pushed-stored pushed-aside in
       omega arith
 
-pub made-fresh : (es : List Entry) (ps qs : List ℕ) (n : ℕ) → es ≡ [] → qs ≡ [] → n ≡ 0 → ps ≡ take 512 qs ++ replicate (512 - n) 0 → entered es ps ≡ fresh
-made-fresh es ps qs n none empty zip filled =
-    let all : ps ≡ replicate 512 0 = filled ∙ ap (λ l. take 512 l ++ replicate (512 - n) 0) empty ∙ ap (λ j. replicate (512 - j) 0) zip in
-    ap (λ l. entered l ps) none ∙ ap (entered []) all ∙ entered-fresh
+pub made-fresh : (es : List Entry) (ps : List ℕ) → es ≡ [] → ps ≡ replicate 512 0 → entered es ps ≡ fresh
+made-fresh es ps none all = ap (λ l. entered l ps) none ∙ ap (entered []) all ∙ entered-fresh
 
 pub made-total : (f : Chain → ℕ) → f first-chain ≡ 0 → (m : Meaning) → m ≡ fresh → total-of f m ≡ 0
 made-total f z m e = ap (total-of f) e ∙ total-fresh f z

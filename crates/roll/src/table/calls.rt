@@ -1,5 +1,6 @@
 // The roll as a version store.
 ghost use mathlib.Core.Path.{_≡_};
+ghost use lib.ListN.{replicate};
 ghost use Rattle.std.specs.Vec.{made};
 ghost use Rattle.store.specs.Model.{fresh};
 ghost use Rattle.roll.specs.Totals.{room, roll-free};
@@ -13,6 +14,16 @@ use store::TransactionNumber;
 use store::Version;
 use store::VersionStore;
 
+// A count of none for every node and key.
+fn no_places_aside(heap: Global) -> Result<Vec<usize>, AllocError>
+    ensures items { λ r. ⌜ made r (λ v. v .items ≡ replicate 512 0) ⌝ }
+    ensures len { λ r. ⌜ made r (λ v. v .len ≡ 512) ⌝ }
+{
+    let mut aside = Vec::new(heap);
+    aside.resize(512, 0usize)?;
+    Ok(aside)
+}
+
 pub impl VersionStore for Roll as RollStore {
     ghost meaning = { roll-meaning };
 
@@ -23,8 +34,7 @@ pub impl VersionStore for Roll as RollStore {
         ensures room { λ r. ⌜ made r (λ s. room 512 (roll-meaning s) ≡ 512) ⌝ }
     {
         let entries = Vec::with_capacity(heap, PLACES)?;
-        let mut aside = Vec::new(heap);
-        aside.resize(512, 0usize)?;
+        let aside = no_places_aside(heap)?;
         Ok(Roll {
             entries,
             aside,

@@ -13,8 +13,8 @@ loop-key-again g c =
     let s = g .S·VersionStore in
     let m = s .meaning (c .args .store .now) in
     let w = s .meaning (c .loop-key .store) in (
-      c .give-back .ensures .after ∙ back-more m w (c .args .node) (c .args .keys .now) (c .loop-key .key-index) (c .loop-key-test .taken) (c .loop-key .inv .0),
-      c .give-back .ensures .rule ∙ c .loop-key .inv .1,
+      c .give-back-one .ensures .after ∙ back-more m w (c .args .node) (c .args .keys .now) (c .loop-key .key-index) (c .loop-key-test .taken) (c .loop-key .inv .0),
+      c .give-back-one .ensures .rule ∙ c .loop-key .inv .1,
     )
 
 pub returns : need.returns

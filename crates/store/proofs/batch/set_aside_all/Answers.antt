@@ -7,7 +7,7 @@ use lib.ListN.{getD, take}
 use lib.Seq.{take-all}
 use Rattle.std.specs.Results.{isOk}
 use Rattle.store.specs.Model.{aside-granted, aside-after}
-use Rattle.store.specs.Batch.{all-aside, all-back, first-refused}
+use Rattle.store.specs.Batch.{all-aside, all-back, first-refused, if-ok}
 use Rattle.store.proofs.Batches.{aside-none, aside-more, granted-more, refused-here, as-before}
 use Rattle.store.proofs.batch.set_aside_all.Needs as need
 
@@ -31,9 +31,9 @@ returns-then-is-err g c =
     let after = c .set-aside .ensures .after ∙ ap (λ f. aside-after f w n k) (c .loop-i .inv .2) in
     let part : take (i - 0) ks ≡ take i ks = ap (λ (j : ℕ). take j ks) (omega arith) in
     record {
-      answer = sym (refused-here free n m w ks i (c .loop-i-test .taken) (c .loop-i .inv .0) (c .loop-i .inv .1) refused);
-      after = c .give-back-all .ensures .after ∙ ap (all-back v n) part ∙ as-before free n m w ks i (c .loop-i-test .taken) (c .loop-i .inv .0) (c .loop-i .inv .1) v refused after;
-      rule = c .give-back-all .ensures .rule ∙ (c .set-aside .ensures .rule ∙ c .loop-i .inv .2);
+      answer = c .refuse-after .ensures .answer ∙ sym (refused-here free n m w ks i (c .loop-i-test .taken) (c .loop-i .inv .0) (c .loop-i .inv .1) refused);
+      after = c .refuse-after .ensures .after ∙ ap (all-back v n) part ∙ as-before free n m w ks i (c .loop-i-test .taken) (c .loop-i .inv .0) (c .loop-i .inv .1) v refused after ∙ sym (ap (λ r. if-ok r (all-aside m n ks) m) (c .refuse-after .ensures .answer));
+      rule = c .refuse-after .ensures .rule ∙ (c .set-aside .ensures .rule ∙ c .loop-i .inv .2);
     }
 
 pub loop-i-again : need.loop-i-again

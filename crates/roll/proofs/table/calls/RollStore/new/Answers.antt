@@ -6,12 +6,12 @@ use Rattle.roll.proofs.table.calls.RollStore.new.Needs as need
 
 pub ghost-result : need.ghost-result
 ghost-result c =
-    let is = made-fresh (c .in-Continue-entries .entries .items) (c .resize .last .self .items) (c .new-aside .result .items) (c .new-aside .result .len) (c .in-Continue-entries .ensures tt .made .0) (c .new-aside .ensures .items) (c .new-aside .ensures .len) (c .in-Continue-resize .ensures tt .items) in
+    let is = made-fresh (c .in-Continue-entries .entries .items) (c .in-Continue-aside .aside .items) (c .in-Continue-entries .ensures tt .made .0) (c .in-Continue-aside .ensures tt .items) in
     let begun = c .in-Continue-entries .ensures tt .made in
     let none = begun .1 .0 in
-    (begun .1 .1, (c .in-Continue-resize .ensures tt .len, (omega (arith, none), (omega (arith, none, made-total stored refl _ is), (made-total set-aside refl _ is, tt)))))
+    (begun .1 .1, (c .in-Continue-aside .ensures tt .len, (omega (arith, none), (omega (arith, none, made-total stored refl _ is), (made-total set-aside refl _ is, tt)))))
 
 pub returns : need.returns
 returns c =
-    let is = made-fresh (c .in-Continue-entries .entries .items) (c .resize .last .self .items) (c .new-aside .result .items) (c .new-aside .result .len) (c .in-Continue-entries .ensures tt .made .0) (c .new-aside .ensures .items) (c .new-aside .ensures .len) (c .in-Continue-resize .ensures tt .items) in
+    let is = made-fresh (c .in-Continue-entries .entries .items) (c .in-Continue-aside .aside .items) (c .in-Continue-entries .ensures tt .made .0) (c .in-Continue-aside .ensures tt .items) in
     record { value = is; room = room-of _ 0 0 (made-total stored refl _ is) (made-total set-aside refl _ is) }
