@@ -20,9 +20,9 @@ pub fn file_at<S: VersionStore>(
     key: u8,
     version: Version,
 ) -> Result<(), u8>
-    ensures answer { result ≡ filed_answer (free store.old) (meaning store.old) first second key }
-    ensures after { meaning store.new ≡ filed_after (free store.old) (meaning store.old) first second key version }
-    ensures rule { free store.new ≡ free store.old }
+    ensures answer { result ≡ filed_answer (S.free store.old) (S.meaning store.old) first second key }
+    ensures after { S.meaning store.new ≡ filed_after (S.free store.old) (S.meaning store.old) first second key version }
+    ensures rule { S.free store.new ≡ S.free store.old }
 {
     if store.set_aside(first, key).is_err() {
         return Err(first);

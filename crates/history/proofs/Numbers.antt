@@ -64,7 +64,7 @@ module _ (holds : Placement) (modulus : ℕ) where
   numbers_yes_read : (s : State) (t p : ℕ) → Locks holds modulus s → Numbers s → Accepted holds modulus s (yes_read t p) →
       Numbers (next holds s (yes_read t p))
   numbers_yes_read s t p l i ok = record {
-    engaged_number = λ u q j e₁ e₂ e₃. elim (hit (engaged s) t p u q e₁) [ inr a ↦ i.engaged_number u q j a e₂ e₃ | inl b ↦ absurd (ok.only-read (j, (rw b.0 at e₂), (rw b.1 at e₃))) ];
+    engaged_number = λ u q j e₁ e₂ e₃. elim (hit (engaged s) t p u q e₁) [ inr a ↦ i.engaged_number u q j a e₂ e₃ | inl b ↦ absurd (ok.only_read (j, (rw b.0 at e₂), (rw b.1 at e₃))) ];
     frontier_counted = i.frontier_counted;
     number_stamp = λ u q j e₁ e₂ e₃ e₄. let o = ok.vote.offered in grind arith;
     applied_stamp = i.applied_stamp;

@@ -7,16 +7,16 @@ use super::VersionStore;
 
 // Gives back one place, if one is set aside there.
 fn give_back_one<S: VersionStore>(store: &mut S, node: u8, key: u8)
-    ensures after { meaning store.new ≡ back_after (meaning store.old) node key }
-    ensures rule { free store.new ≡ free store.old }
+    ensures after { S.meaning store.new ≡ back_after (S.meaning store.old) node key }
+    ensures rule { S.free store.new ≡ S.free store.old }
 {
     let _ = store.give_back(node, key);
 }
 
 // Gives back one place for each of the keys, as far as places are set aside there.
 pub fn give_back_all<S: VersionStore>(store: &mut S, node: u8, keys: &[u8])
-    ensures after { meaning store.new ≡ all_back (meaning store.old) node keys.now }
-    ensures rule { free store.new ≡ free store.old }
+    ensures after { S.meaning store.new ≡ all_back (S.meaning store.old) node keys.now }
+    ensures rule { S.free store.new ≡ S.free store.old }
 {
     for key in keys {
         give_back_one(store, node, *key);
@@ -26,8 +26,8 @@ pub fn give_back_all<S: VersionStore>(store: &mut S, node: u8, keys: &[u8])
 // Gives the places of the keys before a refused one back; the refused key is the answer.
 fn refuse_after<S: VersionStore>(store: &mut S, node: u8, before: &[u8], key: u8) -> Result<(), u8>
     ensures answer { result ≡ Err key }
-    ensures after { meaning store.new ≡ all_back (meaning store.old) node before.now }
-    ensures rule { free store.new ≡ free store.old }
+    ensures after { S.meaning store.new ≡ all_back (S.meaning store.old) node before.now }
+    ensures rule { S.free store.new ≡ S.free store.old }
 {
     give_back_all(store, node, before);
     Err(key)
@@ -36,9 +36,9 @@ fn refuse_after<S: VersionStore>(store: &mut S, node: u8, before: &[u8], key: u8
 // Sets one place aside for each of the keys, in the order of the list. Where the store refuses one, those already set
 // aside are given back, and that key is the answer.
 pub fn set_aside_all<S: VersionStore>(store: &mut S, node: u8, keys: &[u8]) -> Result<(), u8>
-    ensures answer { result ≡ first_refused (free store.old) (meaning store.old) node keys.now }
-    ensures after { meaning store.new ≡ if_ok result (all_aside (meaning store.old) node keys.now) (meaning store.old) }
-    ensures rule { free store.new ≡ free store.old }
+    ensures answer { result ≡ first_refused (S.free store.old) (S.meaning store.old) node keys.now }
+    ensures after { S.meaning store.new ≡ if_ok result (all_aside (S.meaning store.old) node keys.now) (S.meaning store.old) }
+    ensures rule { S.free store.new ≡ S.free store.old }
 {
     for (i, key) in keys.iter().enumerate() {
         if store.set_aside(node, *key).is_err() {

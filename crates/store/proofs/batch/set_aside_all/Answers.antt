@@ -8,8 +8,8 @@ pub loop-i-init : goal.loop-i-init
 unfolding first_refused
 loop-i-init g c = (sym (aside_none (g.S.VersionStore.meaning c.args.store.now) c.args.node), refl, refl)
 
-pub returns-then-is-err : goal.returns-then-is-err
-returns-then-is-err g c =
+pub returns-then-is_err : goal.returns-then-is_err
+returns-then-is_err g c =
     let s = g.S.VersionStore in
     let free = s.free c.args.store.now in
     let m = s.meaning c.args.store.now in
@@ -24,9 +24,9 @@ returns-then-is-err g c =
     let after = c.set_aside.ensures.after ∙ ap (λ f. aside_after f w n k) c.loop-i.invariant.2 in
     let part : take (i - 0) ks ≡ take i ks = ap (λ (j : ℕ). take j ks) (omega arith) in
     record {
-      answer = c.refuse-after.ensures.answer ∙ sym (refused_here free n m w ks i c.loop-i-test.true c.loop-i.invariant.0 c.loop-i.invariant.1 refused);
-      after = c.refuse-after.ensures.after ∙ ap (all_back v n) part ∙ as_before free n m w ks i c.loop-i-test.true c.loop-i.invariant.0 c.loop-i.invariant.1 v refused after ∙ sym (ap (λ r. if_ok r (all_aside m n ks) m) c.refuse-after.ensures.answer);
-      rule = c.refuse-after.ensures.rule ∙ (c.set_aside.ensures.rule ∙ c.loop-i.invariant.2);
+      answer = c.refuse_after.ensures.answer ∙ sym (refused_here free n m w ks i c.loop-i-test.true c.loop-i.invariant.0 c.loop-i.invariant.1 refused);
+      after = c.refuse_after.ensures.after ∙ ap (all_back v n) part ∙ as_before free n m w ks i c.loop-i-test.true c.loop-i.invariant.0 c.loop-i.invariant.1 v refused after ∙ sym (ap (λ r. if_ok r (all_aside m n ks) m) c.refuse_after.ensures.answer);
+      rule = c.refuse_after.ensures.rule ∙ (c.set_aside.ensures.rule ∙ c.loop-i.invariant.2);
     }
 
 pub loop-i-preserved : goal.loop-i-preserved
