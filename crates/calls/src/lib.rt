@@ -1,4 +1,5 @@
 //! The vocabulary of the catalogue: what it is asked, what it answers, and why it refuses.
+#![tactic(auto)]
 
 pub mod answer;
 pub mod call;

@@ -6,3 +6,4 @@ pub mod Known
 pub mod Outcomes
 pub mod Stamps
 pub mod Worlds
+pub mod Performs

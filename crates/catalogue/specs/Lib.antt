@@ -1,3 +1,4 @@
 pub mod Tables
 pub mod Making
 pub mod Replies
+pub mod Runs

@@ -3,5 +3,7 @@
 pub mod catalogue;
 pub mod decision;
 pub mod make;
+pub mod perform;
+pub mod replies;
 mod table;
 pub mod vote;

@@ -1,4 +1,5 @@
 //! Vector clocks, the numbers that nodes give to updates, and the stamps of commits.
+#![tactic(auto)]
 
 ghost use Rattle.std.specs.Prelude.{◌≡◌, ◌^◌, ◌<◌, Decides};
 ghost use Rattle.clock.specs.Clocks.{join, passes, Passes};

@@ -7,7 +7,7 @@ use Rattle.history.specs.Table.{Version, first_version, Table, first_table, Oper
 use Rattle.history.specs.Protocol.{Placement, Clock, Open, Offered, Committed, Aborted, Finished, State, status, clock, read_at, noted, wrote, commit_clock, engaged, applied, chain, conflict, written_version, Event, begin, read_own, read_search, read_update, write, offer, yes_write, yes_read, no_overtaken, no_place, commit, abort, cancel, learn_abort, learn_write, learn_read, apply, finish, Visible, NewestPassing, next, Accepted, Reachable, start, then}
 use Rattle.history.specs.History.{mark, add_operation, script, add_answer, got, decisions, WasRead}
 use Rattle.history.specs.Statements.{stays, OrderAnswered, writers, ChainsListWriters, UncommittedHasAPlace}
-use Rattle.history.proofs.Basics.{same, is_committed, clear, differ, not_committed, uncommitted, committed_after, later_first, later_second, later_asymmetric, selected_same, selected_alike, listed_member, member_listed}
+use Rattle.history.proofs.Basics.{is_committed, clear, differ, not_committed, uncommitted, committed_after, later_first, later_second, later_asymmetric, selected_same, selected_alike, listed_member, member_listed}
 use Rattle.history.proofs.Table.{Apart, keep, keep_member, parted_permutes, part, insert, play_all_same, answered_same}
 use Rattle.history.proofs.Locks.{Locks, all_engaged, begin_moves, offer_moves, abort_moves, cancel_moves, finish_moves}
 use Rattle.history.proofs.Clocks.{Decisions}

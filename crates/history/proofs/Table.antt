@@ -5,8 +5,6 @@ use mathlib.Core.List.Permᴰ
 use mathlib.Core.List.{Permᴰ}
 use Rattle.std.proofs.lemmas.Bool.{or_right, or_parts, eq-eqb, not-true}
 use Rattle.history.specs.Table.{Version, Table, Operation, get, put, after, answers, gets, puts, scripts_conflict, play, play_all, AllAnswered, Member, Later}
-use Rattle.history.specs.History.{script, got}
-use Rattle.history.specs.Statements.{stays}
 
 -- two scripts do not conflict
 abbrev pub Apart : List Operation → List Operation → Type 0

@@ -1,6 +1,6 @@
 -- The statements on histories: of every reachable state s with its history h.  What transactions did and were answered, which of them
 -- committed and what was applied is taken from the history; chains, clocks, stamps and frontiers are those of the state.
-use Rattle.std.specs.Prelude.{◌≡◌, ℕ, ◌+◌, ◌*◌, ◌<◌, ◌≤◌, Bool, true, ◌⊎◌, List, [], ◌∷◌, ◌++◌, length}
+use Rattle.std.specs.Prelude.{◌≡◌, ℕ, ◌+◌, ◌*◌, ◌<◌, ◌≤◌, Bool, true, ◌⊎◌, List, ◌∷◌, ◌++◌, length}
 use mathlib.Core.List.{Perm}
 use Rattle.history.specs.Table.{Version, Table, first_table, after, puts, scripts_conflict, play_all, AllAnswered, Member, listed, Later, selected, newest}
 use Rattle.history.specs.Protocol.{Placement, Committed, Clock, State, Event, status, clock, vote_clock, stamp, commit_clock, counter, frontier, seen, number, chain, MayRead, Reachable}

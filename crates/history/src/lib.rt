@@ -1,3 +1,5 @@
+#![tactic(auto)]
+
 ghost use Rattle.history.specs.Statements.{HistoriesStand};
 ghost use Rattle.history.specs.Example.{MoveHalfApplied};
 

@@ -1,4 +1,5 @@
 //! The listing of a run: a line for each record.
+#![tactic(auto)]
 
 pub mod line;
 

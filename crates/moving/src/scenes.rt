@@ -5,7 +5,7 @@ use crate::report::Report;
 use crate::steps::{apply_at_first, apply_at_second, begin_reader, begin_update};
 use calls::sizes::TransactionNumber;
 use catalogue::catalogue::Catalogue;
-use runs::replies::{of_decide, of_done, of_offer, of_prepare, of_read};
+use catalogue::replies::{of_decide, of_done, of_offer, of_prepare, of_read};
 use store::VersionStore;
 use tickets::ticket::Ticket;
 

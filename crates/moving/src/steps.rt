@@ -4,7 +4,7 @@ use crate::report::Report;
 use calls::answer::Answer;
 use calls::sizes::TransactionNumber;
 use catalogue::catalogue::Catalogue;
-use runs::replies::{of_apply, of_done};
+use catalogue::replies::{of_apply, of_done};
 use store::VersionStore;
 use tickets::reader::SearchTicket;
 use tickets::ticket::Ticket;

@@ -1,4 +1,5 @@
 //! What can be asked and changed of one record, of a transaction or of a node.
+#![tactic(auto)]
 
 pub mod changes;
 pub mod marks;

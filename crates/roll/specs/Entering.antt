@@ -1,12 +1,12 @@
 -- What a write to the roll does to its meaning.
-use Rattle.std.specs.Prelude.{◌≡◌, ℕ, ◌+◌, ◌-◌, ◌*◌, ◌<◌, ◌≤◌, Bool, true, false, cond, ◌&&◌, List, [], ◌∷◌, ◌++◌, length, set, replicate, fold, ◌==◌, nat_eq, slice_set, refl}
-use Rattle.std.proofs.Common.{sym, ◌∙◌, ap, arith}
+use Rattle.std.specs.Prelude.{◌≡◌, ℕ, ◌+◌, ◌*◌, ◌<◌, ◌≤◌, Bool, true, false, cond, ◌&&◌, List, [], ◌∷◌, ◌++◌, length, replicate, fold, ◌==◌, nat_eq, slice_set, refl}
+use Rattle.std.proofs.Common.{◌∙◌, ap, arith}
 use Rattle.std.proofs.Math.Path.{fun_ext}
 use Rattle.std.proofs.lemmas.List.{get_or-set_same, get_or-set_other, get_or-replicate}
 use Rattle.std.proofs.lemmas.List.Sums.{fold_push}
 use Rattle.std.proofs.lemmas.Bool.Decides.{nat_tests}
 use Rattle.store.specs.declared.Version.{Version}
-use Rattle.store.specs.Model.{Chain, Meaning, in_range, with_chain, first_version, fresh}
+use Rattle.store.specs.Model.{Chain, with_chain, first_version, fresh}
 use Rattle.roll.specs.Entries.{entered, versions_of, with_entry, aside_at}
 use Rattle.roll.specs.declared.entry.Entry.{Entry}
 

@@ -1,17 +1,16 @@
 -- The parts of a roll: what a read or a write of one means for the whole, for the two totals and for the free places.
-use Rattle.std.specs.Prelude.{◌≡◌, ℕ, ◌+◌, ◌-◌, ◌*◌, ◌^◌, ◌<◌, ◌≤◌, true, false, cond, List, [], ◌∷◌, ◌++◌, length, get_or, set, replicate, Some, None, slice_index, slice_index_or, slice_set}
+use Rattle.std.specs.Prelude.{◌≡◌, ℕ, ◌+◌, ◌-◌, ◌*◌, ◌^◌, ◌<◌, ◌≤◌, cond, List, [], ◌∷◌, ◌++◌, length, get_or, replicate, Some, None, slice_index, slice_index_or, slice_set}
 use Rattle.std.proofs.Math.Path.{sym, ap}
 use Rattle.std.proofs.Common.{◌∙◌}
 use native.Mathlib.Omega.{arith}
 use Rattle.std.proofs.lemmas.List.{get_or_read_under}
 use Rattle.std.proofs.lemmas.Bool.{cond-true}
 use Rattle.std.proofs.lemmas.Bool.Decides.{nat_tests}
-use Rattle.store.specs.declared.Version.{Version}
 use Rattle.store.specs.Model.{Chain, Meaning, fresh, first_chain, in_range, with_chain, stored, set_aside}
 use Rattle.store.specs.Index.{index_of}
 use Rattle.store.proofs.Listed.{placed, placed_in}
 use Rattle.roll.specs.Totals.{total_of, room}
-use Rattle.roll.specs.Entries.{entered, versions_of, aside_at}
+use Rattle.roll.specs.Entries.{entered}
 use Rattle.roll.specs.Table.{roll_meaning}
 use Rattle.roll.specs.declared.table.Roll.{Roll}
 use Rattle.roll.specs.declared.entry.Entry.{Entry}

@@ -1,4 +1,6 @@
 // A version store with one roll of 512 places for all chains.
+#![tactic(auto)]
+
 mod entry;
 mod table;
 

@@ -6,7 +6,7 @@ use Rattle.std.proofs.lemmas.Bool.Decides.{nat_tests}
 use Rattle.calls.specs.declared.answer.Answer.TheVariants.{Applied}
 use Rattle.calls.specs.declared.refusal.Refusal.TheVariants.{NoSuchNode, NothingToApply, NotLearned}
 use Rattle.calls.specs.Requests.{apply}
-use Rattle.clock.specs.Clocks.{slot, marked, join}
+use Rattle.clock.specs.Clocks.{slot, marked}
 use Rattle.store.specs.declared.Version.{Version as Stored}
 use Rattle.store.specs.Model.{FreeRule, Chain, Meaning, first_version, one_put}
 use Rattle.store.specs.Batch.{asked}
@@ -26,7 +26,7 @@ use Rattle.rules.proofs.Later.{Later, later_fits, last_put, shown_put}
 use Rattle.rules.proofs.Sets.{asked_written}
 use Rattle.rules.proofs.Least.{least_waiting_is}
 use Rattle.rules.proofs.Places.{PutsGranted, enough, put_all_at, put_balance, no_put_refused}
-use Rattle.rules.proofs.MoreViews.{length_join, view_changed, write_node_view, write_node_world, engaged_begun, seen_after, below_eight, stamp_view, seen_view, released_row, engaged_before}
+use Rattle.rules.proofs.MoreViews.{length-join, view_changed, write_node_view, write_node_world, engaged_begun, seen_after, below_eight, stamp_view, seen_view, released_row, engaged_before}
 
 -- A chain with a version put, or not.
 chain_first_last : (b : Bool) (v : Stored) (c : Chain) → without_last c.versions ++ first_version ∷ [] ≡ c.versions →
@@ -127,7 +127,7 @@ module _ (w : World) (inv : Invariant w) (t p : ℕ) (begun : is_begun w t ≡ t
         same_placement = refl;
         keeps =
             keeps_change w (set w.nodes p node_then) t after store_then inv begun (length-set w.nodes p node_then)
-            (seen_after w p node_then inv there (length_join (node w p).seen x.commit))
+            (seen_after w p node_then inv there (length-join (node w p).seen x.commit))
             (later_fits w x after (fits w t inv begun) after_later) first_last_then
             (put_balance w inv t p begun (let l = shape.engaged in let b = below in omega arith) engaged);
         refines =

@@ -11,7 +11,6 @@ use Rattle.store.specs.Model.{FreeRule}
 use Rattle.history.specs.Protocol as protocol
 use Rattle.rules.specs.declared.records.Kind.{Kind}
 use Rattle.rules.specs.declared.records.Kind.TheVariants.{Search, Update}
-use Rattle.rules.specs.declared.records.State.TheVariants.{Open}
 use Rattle.rules.specs.declared.records.Transaction.{Transaction}
 use Rattle.rules.specs.World.{World, is_begun, holds, transaction, new_transaction, no_marks, bit, is_there, value_or, noted, wrote, is_write_node}
 use Rattle.rules.specs.Changes.{is_offered}

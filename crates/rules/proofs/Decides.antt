@@ -13,7 +13,7 @@ use Rattle.history.specs.Protocol as protocol
 use Rattle.rules.specs.declared.records.State.TheVariants.{Offered, Aborted}
 use Rattle.rules.specs.declared.records.Event.TheVariants.{Decide}
 use Rattle.rules.specs.declared.records.Transaction.{Transaction}
-use Rattle.rules.specs.World.{World, is_begun, holds, transaction, with_transaction, bit, some_below, noted, is_write_node}
+use Rattle.rules.specs.World.{World, is_begun, holds, transaction, with_transaction, bit, some_below, is_write_node}
 use Rattle.rules.specs.Changes.{may, becomes, is_committed, is_open, is_offered}
 use Rattle.rules.specs.Deciding.{all_voted, base_clock, stamp_of, stamped, decide_by}
 use Rattle.rules.proofs.View.{view, placed, status_of}

@@ -1,10 +1,9 @@
 -- What holds of every world that calls lead to: the shapes of its tables, and the places set aside in its store.
-use Rattle.std.proofs.Common.{◌≡◌, ℕ, ◌+◌, ◌<◌, ◌≤◌, Bool, true, false, cond, ◌&&◌, ◌||◌, ◌⊎◌, List, [], ◌∷◌, ◌++◌, map, length, Option}
-use Rattle.calls.specs.declared.answer.Answer.{Answer}
+use Rattle.std.proofs.Common.{◌≡◌, ℕ, ◌+◌, ◌<◌, ◌≤◌, true, false, cond, ◌&&◌, ◌||◌, ◌⊎◌, List, [], ◌∷◌, ◌++◌, length}
 use Rattle.calls.specs.Requests.{Request}
 use Rattle.clock.specs.Clocks.{slot, marked}
 use Rattle.store.specs.Model.{FreeRule, first_version}
-use Rattle.history.specs.Protocol.{Event, Accepted, next, Reachable}
+use Rattle.history.specs.Protocol.{Event, Accepted, next}
 use Rattle.history.specs.History.{mark}
 use Rattle.rules.specs.declared.records.State.TheVariants.{Open, Offered}
 use Rattle.rules.specs.declared.records.Transaction.{Transaction}

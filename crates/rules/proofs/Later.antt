@@ -5,7 +5,7 @@ use Rattle.store.specs.declared.Version.{Version as Stored}
 use Rattle.store.specs.Model.{first_version}
 use Rattle.rules.specs.declared.records.State.TheVariants.{Open, Offered}
 use Rattle.rules.specs.declared.records.Transaction.{Transaction}
-use Rattle.rules.specs.World.{World, some_below, holds, transaction, bit, noted, wrote, is_there, is_write_node}
+use Rattle.rules.specs.World.{World, some_below, holds, bit, noted, wrote, is_there, is_write_node}
 use Rattle.rules.proofs.View.{without_last, version_of}
 use Rattle.rules.proofs.Invariant.{Shaped}
 use Rattle.rules.proofs.Keeping.{Fits}

@@ -5,7 +5,7 @@ use Rattle.std.proofs.lemmas.Bool.{cases_Bool, both_ways, false≢true, and_part
 use Rattle.calls.specs.declared.answer.Answer.TheVariants.{Done}
 use Rattle.calls.specs.declared.refusal.Refusal.TheVariants.{NoSuchTransaction, NoSuchNode, WrongState, NotPolled, AlreadyDone}
 use Rattle.calls.specs.Requests.{learn}
-use Rattle.clock.specs.Clocks.{slot, marked, join}
+use Rattle.clock.specs.Clocks.{slot, marked}
 use Rattle.store.specs.Model.{FreeRule, Meaning, first_version}
 use Rattle.store.specs.Batch.{all_back}
 use Rattle.history.specs.Protocol as protocol
@@ -26,7 +26,7 @@ use Rattle.rules.proofs.Keeping.{fits, keeps_change}
 use Rattle.rules.proofs.Later.{Later, later_fits}
 use Rattle.rules.proofs.States.{write_node_from}
 use Rattle.rules.proofs.Places.{back_versions, back_balance, idle_balance}
-use Rattle.rules.proofs.MoreViews.{length_join, view_changed, write_node_view, no_write_node_view, polled_view, seen_after, below_eight, stamp_view, seen_view, released_row, engaged_before}
+use Rattle.rules.proofs.MoreViews.{length-join, view_changed, write_node_view, no_write_node_view, polled_view, seen_after, below_eight, stamp_view, seen_view, released_row, engaged_before}
 
 module _ (w : World) (inv : Invariant w) (t p : ℕ) (begun : is_begun w t ≡ true) (there : is_node w p ≡ true) (polled : bit (transaction w t).polled p ≡ true) (unlearned : marked (transaction w t).learned p ≡ false) where
   abbrev x : Transaction
@@ -182,7 +182,7 @@ module _ (w : World) (inv : Invariant w) (t p : ℕ) (begun : is_begun w t ≡ t
         same_placement = refl;
         keeps =
             keeps_change w (set w.nodes p informed) t released w.store inv begun (length-set w.nodes p informed)
-            (seen_after w p informed inv there (length_join (node w p).seen x.commit))
+            (seen_after w p informed inv there (length-join (node w p).seen x.commit))
             (later_fits w x released (fits w t inv begun) (released_later (λ e. false≢true (ap is_offered (sym is ∙ e))) (λ e. false≢true (ap is_open (sym is ∙ e)))))
             inv.first_last (idle_balance w inv t p begun (let l = shape.engaged in let b = below in omega arith) (nothing_there none));
         refines =

@@ -1,5 +1,5 @@
 -- The world as the protocol of histories sees it: functions of transaction, node and key.
-use Rattle.std.proofs.Common.{◌≡◌, ℕ, Bool, true, cond, List, [], ◌∷◌, map, get_or, None}
+use Rattle.std.proofs.Common.{◌≡◌, ℕ, cond, List, [], ◌∷◌, map, get_or, None}
 use Rattle.calls.specs.declared.answer.Answer.{Answer}
 use Rattle.calls.specs.Requests.{Request}
 use Rattle.clock.specs.Clocks.{slot, marked}

@@ -214,8 +214,8 @@ write_good free w t k value now =
 -- ── An offer ──
 
 -- A bit of a byte that two bytes are joined in.
-pub bit_or : (a b h : ℕ) → bit (bit_or a b) h ≡ (bit a h || bit b h)
-bit_or a b h =
+pub bit-bit_or : (a b h : ℕ) → bit (bit_or a b) h ≡ (bit a h || bit b h)
+bit-bit_or a b h =
     let e : bit_or a b / 2 ^ h ≡ bit_or (a / 2 ^ h) (b / 2 ^ h) = or_shr a b h in
     let s : bit_or a b / 2 ^ h % 2 ≡ max (a / 2 ^ h % 2) (b / 2 ^ h % 2) = ap (λ (x : ℕ). x % 2) e ∙ omega (arith, or_step (a / 2 ^ h) (b / 2 ^ h)) in
     grind (arith, nat_tests)
@@ -226,7 +226,7 @@ holders_byte test placement byte k n = fold (λ (byte k : ℕ). cond (test k) (b
 
 module _ (test : ℕ → Bool) (placement : List ℕ) (p : ℕ) where
   one_more : (byte k : ℕ) → bit (cond (test k) (bit_or byte (get_or placement k 0)) byte) p ≡ (bit byte p || (test k && bit (get_or placement k 0) p))
-  one_more byte k = ⊎_elim (λ (e : test k ≡ true). rw (e) (bit_or byte (get_or placement k 0) p)) (λ (e : test k ≡ false). rw (e) (grind arith)) (cases_Bool (test k))
+  one_more byte k = ⊎_elim (λ (e : test k ≡ true). rw (e) (bit-bit_or byte (get_or placement k 0) p)) (λ (e : test k ≡ false). rw (e) (grind arith)) (cases_Bool (test k))
 
   byte_has : (n byte k : ℕ) → bit (holders_byte test placement byte k n) p ≡ true → (bit byte p ≡ true) ⊎ ((j : ℕ) × (test j ≡ true) × (bit (get_or placement j 0) p ≡ true))
   byte_has zero byte k e = inl e

@@ -1,5 +1,5 @@
 -- Beginning, offering, deciding, cancelling and finishing.
-use Rattle.std.specs.Prelude.{ℕ, ◌+◌, Bool, true, false, cond, not, ◌&&◌, ◌||◌, List, [], ◌∷◌, ◌++◌, map, length, fold, filter, bit_or, nat_lt, slice_index}
+use Rattle.std.specs.Prelude.{ℕ, ◌+◌, Bool, true, false, cond, not, ◌||◌, List, [], ◌∷◌, ◌++◌, map, length, fold, filter, bit_or, nat_lt, slice_index}
 use Rattle.std.specs.List.{range_with_len}
 use Rattle.calls.specs.declared.answer.Answer.TheVariants.{Done, Begun, Polled, Committed, Aborted}
 use Rattle.calls.specs.declared.refusal.Refusal.TheVariants.{NumbersUsedUp, NoSuchTransaction, WrongState, VotesOutstanding}

@@ -1,10 +1,9 @@
 -- Any call, and any list of calls.
-use Rattle.std.specs.Prelude.{ℕ, zero, suc, ◌^◌, Bool, true, false, cond, ◌&&◌, List, [], ◌∷◌, length, replicate, Some, None, Option, ◌==◌, nat_le, nat_lt}
+use Rattle.std.specs.Prelude.{ℕ, zero, suc, ◌^◌, Bool, true, cond, ◌&&◌, List, [], ◌∷◌, length, replicate, Some, None, Option, ◌==◌, nat_le, nat_lt}
 use Rattle.calls.specs.declared.answer.Answer.{Answer}
 use Rattle.calls.specs.declared.refusal.Refusal.TheVariants.{BadRecord, MakeOutOfOrder}
 use Rattle.calls.specs.Requests.{Request, make, begin, read, write, offer, prepare, decide, cancel, learn, apply, finish}
 use Rattle.store.specs.Model.{FreeRule, fresh}
-use Rattle.rules.specs.declared.records.Kind.{Kind}
 use Rattle.rules.specs.declared.records.Kind.TheVariants.{Search, Update}
 use Rattle.rules.specs.World.{World, Outcome, refuse, new_node}
 use Rattle.rules.specs.Reading.{read_call, write_call}

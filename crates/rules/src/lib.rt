@@ -1,4 +1,5 @@
 //! The rules of the catalogue: its records, and what each call answers and does.
+#![tactic(auto)]
 
 ghost use Rattle.rules.specs.Cases.{CasesHold};
 ghost use Rattle.rules.specs.Promises.{PromisesKept};

@@ -18,7 +18,7 @@ use Rattle.rules.specs.Steps.{can_make, made_world, step, world_after}
 use Rattle.rules.specs.Transcript.{Transcript, transcript_on}
 use Rattle.rules.specs.Promises.{Promises}
 use Rattle.rules.proofs.Good.{promises_kept}
-use Rattle.runner.specs.Running.{UnitOutcome, on_content, lines_from, world_from, lines_of, world_of_tape, Accepted, accepted_or, accepted_at, made_by, call_on, calls_on, listed_or, listed_at, listed_calls, Kept, RecordsRun, TapeRun}
+use Rattle.runner.specs.Running.{UnitOutcome, on_content, lines_from, world_from, lines_of, world_of_tape, Accepted, accepted_or, accepted_at, made_by, call_on, calls_on, listed_or, listed_at, listed_calls, Kept, Told, RecordsRun, TapeRun, TapeTold}
 
 -- ── One record more ──
 
@@ -80,22 +80,28 @@ unfolding lines_from transcript_on
 calls_later free [] w earlier = refl
 calls_later free (e ∷ es) w earlier = calls_with free e.1 es w earlier (calls_later free es)
 
-module _ (free : FreeRule) (es : List Entry) (later : Kept free (made_by es) (listed_calls es (lines_from free None es)) (world_from free None es)) where
+-- What is promised of the unit, and of what the lines tell, beside one another.
+abbrev KeptTold : FreeRule → Option Accepted → Transcript → Option World → Type 0
+KeptTold free accepted calls unit = Kept free accepted unit × Told free accepted calls
+
+module _ (free : FreeRule) (es : List Entry) (later : KeptTold free (made_by es) (listed_calls es (lines_from free None es)) (world_from free None es)) where
   kept_make : (nodes keys : ℕ) (placement : List ℕ) (fits : Bool) → can_make nodes keys placement ≡ fits
-      → Kept free (cond fits (Some (record { nodes = nodes; placement = placement; requests = requests_in es })) (made_by es))
+      → KeptTold free (cond fits (Some (record { nodes = nodes; placement = placement; requests = requests_in es })) (made_by es))
       (cond fits (calls_on es (lines_from free (cond {A = UnitOutcome} fits (Done, Some (made_world nodes placement)) (Refused MakeOutOfBounds, None)).1 es) []) (listed_calls es (lines_from free (cond {A = UnitOutcome} fits (Done, Some (made_world nodes placement)) (Refused MakeOutOfBounds, None)).1 es)))
       (world_from free (cond {A = UnitOutcome} fits (Done, Some (made_world nodes placement)) (Refused MakeOutOfBounds, None)).1 es)
   kept_make nodes keys placement true is =
       let as_many : can_make nodes (length placement) placement ≡ true = grind (arith, nat_tests) in
       let told = calls_later free es (made_world nodes placement) [] in
-      record {
-        world = world_later free es (made_world nodes placement);
-        calls_are = told;
-        promises = subst (λ (calls : Transcript). Promises free calls (world_after free (made_world nodes placement) (requests_in es))) (sym told) (promises_kept free nodes placement as_many (requests_in es));
-      }
+      let kept = promises_kept free nodes placement as_many (requests_in es) in (
+        record { world = world_later free es (made_world nodes placement); promises = kept },
+        record {
+          calls_are = told;
+          promises = subst (λ (calls : Transcript). Promises free calls (world_after free (made_world nodes placement) (requests_in es))) (sym told) kept;
+        },
+      )
   kept_make nodes keys placement false is = later
 
-  kept_or : (r : Request) → Kept free (accepted_or r (requests_in es) (made_by es))
+  kept_or : (r : Request) → KeptTold free (accepted_or r (requests_in es) (made_by es))
       (listed_or r (calls_on es (lines_from free (on_content free None (Ok r)).1 es) []) (listed_calls es (lines_from free (on_content free None (Ok r)).1 es)))
       (world_from free (on_content free None (Ok r)).1 es)
   kept_or (make nodes keys placement) = kept_make nodes keys placement (can_make nodes keys placement) refl
@@ -110,27 +116,28 @@ module _ (free : FreeRule) (es : List Entry) (later : Kept free (made_by es) (li
   kept_or (apply p) = later
   kept_or (finish t) = later
 
-  kept_at : (content : Content) → Kept free (accepted_at content (requests_in es) (made_by es))
+  kept_at : (content : Content) → KeptTold free (accepted_at content (requests_in es) (made_by es))
       (listed_at content (calls_on es (lines_from free (on_content free None content).1 es) []) (listed_calls es (lines_from free (on_content free None content).1 es)))
       (world_from free (on_content free None content).1 es)
   kept_at (Ok r) = kept_or r
   kept_at (Err refusal) = later
 
-pub kept : (free : FreeRule) (es : List Entry) → Kept free (made_by es) (listed_calls es (lines_of free es)) (world_of_tape free es)
+pub kept : (free : FreeRule) (es : List Entry) → KeptTold free (made_by es) (listed_calls es (lines_of free es)) (world_of_tape free es)
 unfolding world_from lines_from
-kept free [] = refl
+kept free [] = (refl, tt)
 kept free (e ∷ es) = kept_at free es (kept free es) e.1
 
 -- A whole tape.
 pub tape_run : (free : FreeRule) (tape : List ℕ) (entries : List Entry) (lines : List Line) (unit : Option World) → entries ≡ read_tape tape → RecordsRun free entries lines unit → TapeRun free tape lines unit
 tape_run free tape entries lines unit is done =
     let run : RecordsRun free (read_tape tape) lines unit = subst (λ (es : List Entry). RecordsRun free es lines unit) is done in
-    let accepted = made_by (read_tape tape) in
-    record {
-      run = run;
-      kept = subst (λ (u : Option World). Kept free accepted (listed_calls (read_tape tape) lines) u) (sym run.world)
-          (subst (λ (ls : List Line). Kept free accepted (listed_calls (read_tape tape) ls) (world_of_tape free (read_tape tape))) (sym run.listed) (kept free (read_tape tape)));
-    }
+    record { run = run; kept = subst (λ (u : Option World). Kept free (made_by (read_tape tape)) u) (sym run.world) (kept free (read_tape tape)).0 }
+
+-- What its lines tell.
+pub tape_told : (free : FreeRule) (tape : List ℕ) (entries : List Entry) (lines : List Line) (unit : Option World) → entries ≡ read_tape tape → RecordsRun free entries lines unit → TapeTold free tape lines
+tape_told free tape entries lines unit is done =
+    let run : RecordsRun free (read_tape tape) lines unit = subst (λ (es : List Entry). RecordsRun free es lines unit) is done in
+    subst (λ (ls : List Line). Told free (made_by (read_tape tape)) (listed_calls (read_tape tape) ls)) (sym run.listed) (kept free (read_tape tape)).1
 
 -- What is known of the value of a result, told otherwise.
 pub told_otherwise : {A E : Type 0} {P Q : A → Type 0} (R : E → Type 0) (r : Result A E) → ((a : A) → P a → Q a) → MatchResult r P R → MatchResult r Q R

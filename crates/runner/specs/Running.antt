@@ -141,15 +141,24 @@ listed_calls (e ∷ es) (line ∷ lines) = listed_at e.1 (calls_on es lines []) 
 -- ── What is promised of a run ──
 
 -- Where a make was accepted, the unit ends in the world that the requests after it lead to, and every promise is kept of these requests
--- with the answers that their lines give. Where none was, no catalogue is made.
-pub record KeptAfter (free : FreeRule) (accepted : Accepted) (calls : Transcript) (unit : Option World) : Type 0 where
+-- and their answers. Where none was, no catalogue is made.
+pub record KeptAfter (free : FreeRule) (accepted : Accepted) (unit : Option World) : Type 0 where
   pub world : unit ≡ Some (world_after free (made_world accepted.nodes accepted.placement) accepted.requests)
+  pub promises : Promises free (transcript free (made_world accepted.nodes accepted.placement) accepted.requests) (world_after free (made_world accepted.nodes accepted.placement) accepted.requests)
+
+abbrev pub Kept : FreeRule → Option Accepted → Option World → Type 0
+Kept free None unit = unit ≡ None
+Kept free (Some accepted) unit = KeptAfter free accepted unit
+
+-- Where a make was accepted, the requests after it with the answers that their lines give are the calls of the rules, and every promise is
+-- kept of them.
+pub record ToldAfter (free : FreeRule) (accepted : Accepted) (calls : Transcript) : Type 0 where
   pub calls_are : calls ≡ transcript free (made_world accepted.nodes accepted.placement) accepted.requests
   pub promises : Promises free calls (world_after free (made_world accepted.nodes accepted.placement) accepted.requests)
 
-abbrev pub Kept : FreeRule → Option Accepted → Transcript → Option World → Type 0
-Kept free None calls unit = unit ≡ None
-Kept free (Some accepted) calls unit = KeptAfter free accepted calls unit
+abbrev pub Told : FreeRule → Option Accepted → Transcript → Type 0
+Told free None calls = Unit {0}
+Told free (Some accepted) calls = ToldAfter free accepted calls
 
 -- Some records were run on a new unit: the lines are those of the definition, and so is the world after them.
 pub record RecordsRun (free : FreeRule) (entries : List Entry) (lines : List Line) (unit : Option World) : Type 0 where
@@ -159,7 +168,11 @@ pub record RecordsRun (free : FreeRule) (entries : List Entry) (lines : List Lin
 -- The same of the records that are read of the bytes of a tape, with every promise that is kept of such a run.
 pub record TapeRun (free : FreeRule) (tape : List ℕ) (lines : List Line) (unit : Option World) : Type 0 where
   pub run : RecordsRun free (read_tape tape) lines unit
-  pub kept : Kept free (made_by (read_tape tape)) (listed_calls (read_tape tape) lines) unit
+  pub kept : Kept free (made_by (read_tape tape)) unit
+
+-- The lines of a tape tell of calls for which every promise is kept.
+abbrev pub TapeTold : FreeRule → List ℕ → List Line → Type 0
+TapeTold free tape lines = Told free (made_by (read_tape tape)) (listed_calls (read_tape tape) lines)
 
 -- ── The unit of the program ──
 

@@ -6,7 +6,7 @@ ghost use Rattle.tape.specs.Reading.{requested};
 ghost use Rattle.tape.specs.Records.{entry_of};
 ghost use Rattle.store.specs.Model.{FreeRule};
 ghost use Rattle.catalogue.specs.Tables.{world_of};
-ghost use Rattle.runner.specs.Running.{first_step, on_content, unit_world, CountsBy, RecordsRun, TapeRun};
+ghost use Rattle.runner.specs.Running.{first_step, on_content, unit_world, CountsBy, RecordsRun, TapeRun, TapeTold};
 ghost use Rattle.runner.specs.declared.RunError.TheVariants.{OutOfMemory};
 
 use calls::answer::Answer;
@@ -15,7 +15,6 @@ use calls::refusal::Refusal;
 use catalogue::catalogue::Catalogue;
 use catalogue::make::MakeError;
 use listing::line::Line;
-use runs::perform;
 use std::alloc::{AllocFailed, Global};
 use store::VersionStore;
 use tape::read::read;
@@ -88,7 +87,7 @@ fn on_record<S: VersionStore>(
         Err(refusal) => return Ok(Answer::Refused { refusal: *refusal }),
     };
     if let Some(catalogue) = unit {
-        return Ok(perform(catalogue, call));
+        return Ok(catalogue.perform(call));
     }
     let (answer, made) = first_call(heap, call)?;
     *unit = made;
@@ -117,9 +116,10 @@ fn run_records<S: VersionStore>(heap: Global, records: &[Record<'_>]) -> Result<
 /// Runs a tape on a new unit. Every sequence of bytes gives a report.
 ///
 /// The contract says that the lines are those of the rules over the bytes of the tape, and carries every promise about the calls that the tape
-/// makes after its accepted make.
+/// makes after its accepted make: with the answers of the rules, and with those that the lines give.
 pub fn run_tape<S: VersionStore>(heap: Global, tape: &[u8]) -> Result<Report<S>, RunError>
-    ensures { MatchResult result (λ o. (free : FreeRule) → CountsBy (λ c. S.VersionStore.free c.store) free o.catalogue → TapeRun free tape.now o.lines.items (unit_world (λ c. world_of c.table (S.VersionStore.meaning c.store)) o.catalogue)) (λ e. e ≡ OutOfMemory) }
+    ensures ran { MatchResult result (λ o. (free : FreeRule) → CountsBy (λ c. S.VersionStore.free c.store) free o.catalogue → TapeRun free tape.now o.lines.items (unit_world (λ c. world_of c.table (S.VersionStore.meaning c.store)) o.catalogue)) (λ e. e ≡ OutOfMemory) }
+    ensures told { MatchResult result (λ o. (free : FreeRule) → CountsBy (λ c. S.VersionStore.free c.store) free o.catalogue → TapeTold free tape.now o.lines.items) (λ e. e ≡ OutOfMemory) }
 {
     let records = read(heap, tape)?;
     run_records(heap, records.as_slice())

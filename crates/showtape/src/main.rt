@@ -1,5 +1,6 @@
 //! Prints what the tape on standard input says, and whether writing its calls gives the same bytes. Then prints what the reader makes of tapes that are
 //! damaged in known ways, what the writer makes of calls that it has to refuse, and a listing with every kind of answer.
+#![tactic(auto)]
 
 mod again;
 mod answers;

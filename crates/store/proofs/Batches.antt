@@ -1,10 +1,10 @@
 -- Lemmas on several keys of one node.
-use Rattle.std.proofs.Common.{◌≡◌, ℕ, ◌+◌, ◌-◌, ◌<◌, ◌≤◌, Bool, true, false, cond, ◌&&◌, eqb, ltb, List, [], ◌∷◌, ◌++◌, length, get_or, take, drop, Ok, Err, Result, sym, refl, ap, ◌∙◌, arith}
+use Rattle.std.proofs.Common.{◌≡◌, ℕ, ◌+◌, ◌-◌, ◌<◌, Bool, true, false, cond, ◌&&◌, eqb, List, [], ◌∷◌, ◌++◌, length, get_or, take, drop, Ok, Err, Result, sym, refl, ap, ◌∙◌, arith}
 use mathlib.Core.Path.{fun_ext}
 use Rattle.std.proofs.lemmas.List.{take_more, drop_more, take-append-drop}
 use Rattle.std.proofs.lemmas.Bool.Decides.{nat_tests}
 use Rattle.std.proofs.lemmas.Bool.{cond-true, cond-false}
-use Rattle.store.specs.Model.{Chain, Meaning, FreeRule, in_range, with_chain, one_aside, one_back, aside_granted, aside_after, aside_there, back_after}
+use Rattle.store.specs.Model.{Chain, Meaning, FreeRule, in_range, with_chain, one_aside, aside_granted, aside_after, back_after}
 use Rattle.store.specs.Batch.{asked, all_aside, all_back, first_refused}
 
 -- A chain with another number of places set aside.

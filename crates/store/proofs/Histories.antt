@@ -1,10 +1,10 @@
 -- Any list of calls on a new store.
-use Rattle.std.proofs.Common.{◌≡◌, ℕ, ◌+◌, ◌-◌, Bool, true, false, cond, ◌&&◌, eqb, ltb, List, [], ◌∷◌, ◌++◌, sym, refl, ap, ◌∙◌, subst, ⊎_elim, append_assoc, arith}
+use Rattle.std.proofs.Common.{◌≡◌, ℕ, ◌+◌, true, false, List, [], ◌∷◌, ◌++◌, sym, refl, ap, ◌∙◌, ⊎_elim, append_assoc, arith}
 use Rattle.std.proofs.lemmas.Bool.{cases_Bool, cond-true, cond-false}
 use Rattle.std.proofs.lemmas.Bool.Decides.{nat_tests}
 use Rattle.store.specs.declared.Version.{Version}
-use Rattle.store.specs.Model.{Chain, Meaning, FreeRule, fresh, first_version, in_range, with_chain, aside_granted, aside_after, aside_there, back_after, put_after}
-use Rattle.store.specs.Runs.{StoreCall, SetAside, GiveBack, Put, granted, after, after_all, granted_of, version_at, put_at, sets_at, uses_at, count, Remembers, StoresRemember}
+use Rattle.store.specs.Model.{Meaning, FreeRule, fresh}
+use Rattle.store.specs.Runs.{StoreCall, SetAside, GiveBack, Put, granted, after, after_all, granted_of, version_at, put_at, sets_at, uses_at, count, StoresRemember}
 
 -- What one granted call does to a chain, and that a refused call does nothing.
 module _ (free : FreeRule) (m : Meaning) (n k : ℕ) where

@@ -1,6 +1,6 @@
 -- Several keys of one node at once: places for all of them, or for none.
-use Rattle.std.specs.Prelude.{ℕ, ◌+◌, ◌-◌, Bool, true, false, cond, ◌&&◌, List, [], ◌∷◌, Ok, Err, Result, ◌==◌}
-use Rattle.store.specs.Model.{Chain, Meaning, FreeRule, in_range, aside_granted, aside_after}
+use Rattle.std.specs.Prelude.{ℕ, ◌+◌, ◌-◌, cond, ◌&&◌, List, [], ◌∷◌, Ok, Err, Result, ◌==◌}
+use Rattle.store.specs.Model.{Meaning, FreeRule, in_range, aside_granted, aside_after}
 
 -- How many places a list of keys asks for at the key k: as many as it has k.
 unfoldable pub asked : List ℕ → ℕ → ℕ

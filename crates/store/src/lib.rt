@@ -1,4 +1,6 @@
 // Version stores: what a store means, the trait that every store meets, and code over any of them.
+#![tactic(auto)]
+
 ghost use Rattle.std.specs.Prelude.{◌≡◌, ℕ, ◌+◌, ◌^◌, ◌<◌, length, is_ok, IfOk, if◌then◌else◌};
 ghost use Rattle.store.specs.Model.{Meaning, FreeRule, fresh, nth_answer, aside_granted, aside_after, aside_there, back_after, put_after};
 ghost use Rattle.store.specs.Index.{index_of};

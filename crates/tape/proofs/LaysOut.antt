@@ -1,13 +1,12 @@
 -- A tape of which no record is refused holds the bytes that are written for the requests read from it.
-use Rattle.std.proofs.Common.{◌≡◌, ℕ, zero, suc, ◌+◌, ◌-◌, ◌*◌, ◌^◌, ◌<◌, ◌≤◌, Bool, true, false, cond, ◌&&◌, eqb, ltb, List, [], ◌∷◌, ◌++◌, length, get_or, take, drop, is_ok, Ok, Err, Result, sym, refl, ap, ◌∙◌, subst, ⊎_elim, append_assoc, append-nil, arith}
+use Rattle.std.proofs.Common.{◌≡◌, ℕ, zero, suc, ◌+◌, ◌-◌, ◌≤◌, true, cond, eqb, ltb, List, [], ◌∷◌, ◌++◌, length, get_or, take, drop, is_ok, Ok, Err, sym, refl, ap, ◌∙◌, subst, ⊎_elim, append-nil, arith}
 use Rattle.std.specs.List.{between}
-use Rattle.std.proofs.lemmas.List.{length-append, length-take-le, take_all, length-drop, take-append-drop, drop-drop, drop_all, get_or-take, get_or-drop, get_or_past, length-take}
-use Rattle.std.proofs.lemmas.Bool.{ltb-true, ltb-false, eqb-true, eq-eqb, and_parts, and_from, cases_lt, false≢true, cond-true, cond-false, cond_both}
-use Rattle.calls.specs.declared.refusal.Refusal.{Refusal}
+use Rattle.std.proofs.lemmas.List.{length-take-le, take_all, length-drop, take-append-drop, drop-drop, drop_all, get_or-take, get_or-drop, get_or_past, length-take}
+use Rattle.std.proofs.lemmas.Bool.{ltb-false, eqb-true, eq-eqb, and_parts, and_from, cases_lt, false≢true, cond_both}
 use Rattle.calls.specs.declared.refusal.Refusal.TheVariants.{UnreadableTape, BadRecord}
 use Rattle.calls.specs.Requests.{Request, make, begin, read, write, offer, prepare, decide, cancel, learn, apply, finish}
 use Rattle.tape.specs.Layout.{bytes_of, number_in, kind, body, record_of, tape_of}
-use Rattle.tape.specs.Reading.{Content, Entry, of_length, make_in, begin_in, read_in, write_in, offer_in, prepare_in, decide_in, cancel_in, learn_in, apply_in, finish_in, decode as decoded, cut, framed, record_at, records_from, read_tape}
+use Rattle.tape.specs.Reading.{Content, Entry, of_length, make_in, begin_in, read_in, write_in, offer_in, prepare_in, decide_in, cancel_in, learn_in, apply_in, finish_in, decode as decoded, cut, framed, record_at, records_from}
 use Rattle.tape.specs.Writing.{writable, all_writable}
 use Rattle.tape.specs.Trips.{Bytes, said, requests_in, none_refused, LaysOutAgain}
 use Rattle.tape.proofs.Numbers.{listed, bytes_back, drop_listed}

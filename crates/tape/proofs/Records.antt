@@ -1,8 +1,8 @@
 -- The record at a place, case by case.
-use Rattle.std.proofs.Common.{◌≡◌, ℕ, zero, suc, ◌+◌, ◌*◌, ◌<◌, ◌≤◌, Bool, true, false, cond, eqb, ltb, List, [], ◌∷◌, ◌++◌, length, get_or, Ok, Err, sym, refl, ap, ◌∙◌, ⊎_elim, append_assoc, arith}
+use Rattle.std.proofs.Common.{◌≡◌, ℕ, zero, suc, ◌+◌, ◌<◌, ◌≤◌, cond, eqb, ltb, List, [], ◌∷◌, ◌++◌, length, Err, sym, refl, ap, ◌∙◌, ⊎_elim, append_assoc, arith}
 use Rattle.std.specs.List.{between}
 use Rattle.std.proofs.lemmas.Bool.{lt-ltb, le-ltb, eq-eqb, ltb-false, cases_lt, cond-true, cond-false, cond_both}
-use Rattle.calls.specs.declared.refusal.Refusal.TheVariants.{UnreadableTape, BadRecord}
+use Rattle.calls.specs.declared.refusal.Refusal.TheVariants.{BadRecord}
 use Rattle.tape.specs.Layout.{number_in}
 use Rattle.tape.specs.Reading.{Content, Entry, of_length, decode, cut, framed, record_at, records_from}
 

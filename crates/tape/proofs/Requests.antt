@@ -1,6 +1,6 @@
 -- Lists of calls, gone through one by one.
-use Rattle.std.proofs.Common.{◌≡◌, ℕ, ◌+◌, ◌<◌, ◌≤◌, Bool, true, false, ◌&&◌, List, [], ◌∷◌, ◌++◌, map, length, get_or, take, drop, sym, refl, ap, ◌∙◌, subst, arith}
-use Rattle.std.proofs.lemmas.List.{append-nil, drop_more, drop_all, flat_map_more, length-append, map_more, take_all}
+use Rattle.std.proofs.Common.{◌≡◌, ℕ, ◌+◌, ◌<◌, ◌≤◌, Bool, ◌&&◌, List, [], ◌∷◌, ◌++◌, map, length, get_or, take, drop, sym, refl, ap, ◌∙◌, subst, arith}
+use Rattle.std.proofs.lemmas.List.{drop_more, drop_all, flat_map_more, length-append, map_more, take_all}
 use Rattle.calls.specs.declared.call.Call.{Call}
 use Rattle.calls.specs.Requests.{Request, request}
 use Rattle.tape.specs.Layout.{record_of, tape_of}

@@ -1,4 +1,3 @@
-use Rattle.std.specs.Prelude.{ℕ}
 use Rattle.tape.specs.declared.record.Record.{Record}
 use Rattle.tape.specs.Reading.{Entry, requested}
 

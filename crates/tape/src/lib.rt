@@ -1,4 +1,5 @@
 //! Tapes: the calls of a run as bytes. docs/TAPE.md has the layout.
+#![tactic(auto)]
 
 mod decode;
 pub mod kinds;

@@ -1,6 +1,6 @@
-use Rattle.std.proofs.Common.{◌≡◌, ℕ, ◌^◌, ◌<◌, sym, ap, ◌∙◌, arith}
+use Rattle.std.proofs.Common.{◌≡◌, arith}
 use Rattle.std.proofs.lemmas.Bool.Decides.{nat_tests}
-use Rattle.clock.specs.Numbers.{first_leaving, if_fits}
+use Rattle.clock.specs.Numbers.{first_leaving}
 use Rattle.clock.proofs.Least.{by_formula}
 use Rattle.clock.proofs.first_leaving.Goals as goal
 use Rattle.clock.proofs.first_leaving.Goals.{then-left-wanted, else-left-wanted}

@@ -6,8 +6,8 @@ use Rattle.deciding.proofs.commit_clock_of.Goals as goal
 
 pub loop-q-preserved : goal.loop-q-preserved
 loop-q-preserved c w parts =
-    stamped_more (is_write_node w c.args.x.now) (base_clock c.args.x.now) c.args.number c.loop-q.commit c.loop-q.q c.commit-slot-next.result c.from.result c.from-in-loop-q.result
-    c.loop-q-test.true (c.loop-q.invariant w parts) c.from.ensures c.from-in-loop-q.ensures (c.commit-slot-next.ensures w parts)
+    stamped_more (is_write_node w c.args.x.now) (base_clock c.args.x.now) c.args.number c.loop-q.commit c.loop-q.q c.commit_slot-next.result c.from.result c.from-in-loop-q.result
+    c.loop-q-test.true (c.loop-q.invariant w parts) c.from.ensures c.from-in-loop-q.ensures (c.commit_slot-next.ensures w parts)
 
 pub returns : goal.returns
 returns c = record {

@@ -15,14 +15,14 @@ pub loop-record-preserved : goal.loop-record-preserved
 loop-record-preserved g c =
     let s = g.S.VersionStore in
     let before = unit_world (λ v. world_of v.table (s.meaning v.store)) c.loop-record.unit in
-    let after = unit_world (λ v. world_of v.table (s.meaning v.store)) c.on-record.new.unit in
+    let after = unit_world (λ v. world_of v.table (s.meaning v.store)) c.on_record.new.unit in
     let records = c.args.records.now in
     let i = c.loop-record.record-index in
     let lines = c.push.new.self.items in
     let e : Entry = entry_of (get_or records i no_record) in
     λ free counts.
-    let earlier = c.in-ok-answer.ensures.rule free counts in
-    let more = one_more free (map entry_of (take i records)) c.loop-record.lines.items before after (c.loop-record.invariant free earlier) e c.in-ok-answer.answer lines c.in-ok-push.ensures.items (c.in-ok-answer.ensures.step free earlier) in
+    let earlier = c.in_ok-answer.ensures.rule free counts in
+    let more = one_more free (map entry_of (take i records)) c.loop-record.lines.items before after (c.loop-record.invariant free earlier) e c.in_ok-answer.answer lines c.in_ok-push.ensures.items (c.in_ok-answer.ensures.step free earlier) in
     subst (λ (es : List Entry). RecordsRun free es lines after) (taken_more records i c.loop-record-test.true) more
 
 pub returns : goal.returns

@@ -17,8 +17,8 @@ loop-k-preserved c =
     elim c.if-names.branch [
       | then-names w ↦
           w.byte-is
-          ∙ ap (λ byte. bit_or byte w.holders_byte.result) c.loop-k.invariant.0
-          ∙ ap (bit_or _) w.holders_byte.ensures
+          ∙ ap (λ byte. bit_or byte w.holders-byte.result) c.loop-k.invariant.0
+          ∙ ap (bit_or _) w.holders-byte.ensures
           ∙ sym (polled_with placement x k (omega arith) (named ∙ w.if-names.true))
       | else-names w ↦ w.byte-is ∙ c.loop-k.invariant.0 ∙ sym (polled_without placement x k (omega arith) (named ∙ w.if-names.false))
     ] in

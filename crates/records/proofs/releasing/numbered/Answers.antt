@@ -1,5 +1,5 @@
-use Rattle.std.proofs.Common.{sym, refl, ap, ◌∙◌, subst}
-use Rattle.rules.specs.Changes.{is_learned, is_numbered}
+use Rattle.std.proofs.Common.{sym, ap, ◌∙◌, subst}
+use Rattle.rules.specs.Changes.{is_learned}
 use Rattle.records.specs.Bounds.{Keeps}
 use Rattle.records.proofs.Bounded.{keeps_stamped}
 use Rattle.records.proofs.releasing.numbered.Goals as goal

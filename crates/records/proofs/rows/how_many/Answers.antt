@@ -2,7 +2,7 @@ use Rattle.std.proofs.Common.{is_some, sym, ap, ◌∙◌, arith}
 use Rattle.std.proofs.lemmas.List.{take_all}
 use Rattle.rules.specs.World.{how_many}
 use Rattle.records.proofs.Counts.{how_many_some, how_many_none}
-use Rattle.records.proofs.rows.how_many.Goals.{then-is-some, else-is-some}
+use Rattle.records.proofs.rows.how_many.Goals.{then-is_some, else-is_some}
 use Rattle.records.proofs.rows.how_many.Goals as goal
 
 pub loop-entry-preserved : goal.loop-entry-preserved
@@ -10,16 +10,16 @@ loop-entry-preserved g c =
     let row = c.args.row.now in
     let i = c.loop-entry.entry-index in
     let d = c.entry-item.result in
-    let is = sym (ap is_some c.entry-item.is) ∙ sym c.is-some.ensures in
+    let is = sym (ap is_some c.entry-item.is) ∙ sym c.is_some.ensures in
     let had = c.loop-entry.invariant.0 in
     let few = c.loop-entry.invariant.1 in
-    elim c.if-is-some.branch [
-      | then-is-some w ↦
+    elim c.if-is_some.branch [
+      | then-is_some w ↦
           let after = w.there-is in
-          (omega (arith, how_many_some row i d c.loop-entry-test.true (is ∙ w.if-is-some.true)), omega arith)
-      | else-is-some w ↦
+          (omega (arith, how_many_some row i d c.loop-entry-test.true (is ∙ w.if-is_some.true)), omega arith)
+      | else-is_some w ↦
           let after = w.there-is in
-          (omega (arith, how_many_none row i d c.loop-entry-test.true (is ∙ w.if-is-some.false)), omega arith)
+          (omega (arith, how_many_none row i d c.loop-entry-test.true (is ∙ w.if-is_some.false)), omega arith)
     ]
 
 pub returns : goal.returns

@@ -9,5 +9,5 @@ loop-p-preserved c =
     let each : (k : ℕ) → k < p + 1 → has_voted x k ≡ true = below_more (λ k. has_voted x k ≡ true) p c.loop-p.invariant.0 (search rules) in
     (each, λ (enough : 8 ≤ p + 1). all_have_voted x (p + 1) enough each)
 
-pub returns-then-not-has-voted : goal.returns-then-not-has-voted
-returns-then-not-has-voted c = sym (one_has_not c.args.x.now c.loop-p.p (omega arith) (search rules))
+pub returns-then-not-has_voted : goal.returns-then-not-has_voted
+returns-then-not-has_voted c = sym (one_has_not c.args.x.now c.loop-p.p (omega arith) (search rules))

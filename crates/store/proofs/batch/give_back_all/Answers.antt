@@ -1,4 +1,4 @@
-use Rattle.std.proofs.Common.{◌≡◌, take, sym, refl, ap, ◌∙◌, take_all}
+use Rattle.std.proofs.Common.{sym, refl, ap, ◌∙◌, take_all}
 use Rattle.store.specs.Batch.{all_back}
 use Rattle.store.proofs.Batches.{back_none, back_more}
 use Rattle.store.proofs.batch.give_back_all.Goals as goal
@@ -11,8 +11,8 @@ loop-key-preserved g c =
     let s = g.S.VersionStore in
     let m = s.meaning c.args.store.now in
     let w = s.meaning c.loop-key.store in (
-      c.give-back-one.ensures.after ∙ back_more m w c.args.node c.args.keys.now c.loop-key.key-index c.loop-key-test.true c.loop-key.invariant.0,
-      c.give-back-one.ensures.rule ∙ c.loop-key.invariant.1,
+      c.give_back_one.ensures.after ∙ back_more m w c.args.node c.args.keys.now c.loop-key.key-index c.loop-key-test.true c.loop-key.invariant.0,
+      c.give_back_one.ensures.rule ∙ c.loop-key.invariant.1,
     )
 
 pub returns : goal.returns

@@ -1,4 +1,4 @@
-use Rattle.std.proofs.Common.{◌≡◌, ℕ, ◌<◌, ltb, List, [], ◌∷◌, ◌++◌, map, length, Err, vec_items, sym, refl, ap, ◌∙◌, subst, append-nil, arith, rules}
+use Rattle.std.proofs.Common.{◌≡◌, ℕ, ltb, [], ◌∷◌, ◌++◌, map, length, Err, vec_items, sym, ap, ◌∙◌, subst, append-nil, arith, rules}
 use Rattle.std.proofs.lemmas.List.{map_push}
 use Rattle.std.proofs.lemmas.Bool.{le-ltb, cond-false}
 use Rattle.calls.specs.declared.refusal.Refusal.TheVariants.{UnreadableTape}
@@ -14,18 +14,18 @@ loop-at-preserved c =
     let done = map entry_of (vec_items c.loop-at.records) in
     let tape = c.args.tape.now in
     let at = c.loop-at.at in
-    let content = requested c.record-at-next.result.0 in
-    let next = c.record-at-next.result.1 in
-    let items = c.in-ok-push-2.ensures.items in
+    let content = requested c.record_at-next.result.0 in
+    let next = c.record_at-next.result.1 in
+    let items = c.in_ok-push-2.ensures.items in
     let joined : map entry_of (vec_items c.push-in-loop-at.new.self) ≡ done ++ (at, content) ∷ [] = search (rules, map_push, items) in
     ap (λ entries. entries ++ rest_from tape next) joined
-    ∙ read_more done (rest_from tape 0) content next tape at c.record-at-next.ensures c.loop-at-test.true c.loop-at.invariant
+    ∙ read_more done (rest_from tape 0) content next tape at c.record_at-next.ensures c.loop-at-test.true c.loop-at.invariant
 
 pub loop-at-smaller : goal.loop-at-smaller
 loop-at-smaller c =
     let tape = c.args.tape.now in
     let at = c.loop-at.at in
-    let next : c.record-at-next.result.1 ≡ (record_at tape at).1 = ap (λ (x : Content × ℕ). x.1) c.record-at-next.ensures in
+    let next : c.record_at-next.result.1 ≡ (record_at tape at).1 = ap (λ (x : Content × ℕ). x.1) c.record_at-next.ensures in
     let behind = beyond tape at c.loop-at-test.true in
     omega (arith, next, behind.0)
 
@@ -43,5 +43,5 @@ returns c =
     ∙ sym (cond-false (ltb 32768 (length tape)) ((0, Err UnreadableTape) ∷ []) (rest_from tape 0) (le-ltb 32768 (length tape) (omega arith))) in
     record {
       records = all;
-      laid_out = subst (λ entries. LaidOut entries tape) (sym all) (lays_out_again tape (λ i. omega (arith, (c.type-inv.tape i).fits)));
+      laid_out = subst (λ entries. LaidOut entries tape) (sym all) (lays_out_again tape (λ i. omega (arith, (c.type_inv.tape i).fits)));
     }

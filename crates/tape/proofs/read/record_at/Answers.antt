@@ -12,4 +12,4 @@ returns c =
     let last : get_or tape (at + 2 + 1) 0 ≡ get_or tape (at + 3) 0 = ap (λ i. get_or tape i 0) next in
     let found : Content → Content × ℕ = λ x. (x, at + 2 + len) in
     ap found c.decode.ensures
-    ∙ sym (whole tape at len c.from-le-bytes-kind.result (omega arith) (omega arith) (omega arith) (omega arith))
+    ∙ sym (whole tape at len c.from_le_bytes-kind.result (omega arith) (omega arith) (omega arith) (omega arith))

@@ -6,7 +6,7 @@ use Rattle.tape.proofs.trips.round_trip.Goals as goal
 
 pub returns : goal.returns
 returns c = record {
-  none-missed = λ tape more. enough (length tape + more) (length tape) tape 0 (omega arith) (omega arith);
+  none_missed = λ tape more. enough (length tape + more) (length tape) tape 0 (omega arith) (omega arith);
   reads_back = reads_back;
   lays_out_again = lays_out_again;
 }

@@ -5,12 +5,12 @@ use Rattle.tape.proofs.write.fits.Goals as goal
 
 pub returns-then-room-total : goal.returns-then-room-total
 returns-then-room-total c =
-    let more = tape_more c.args.calls.now c.loop-call.call-index _ c.record-length-more.result c.loop-call-test.true c.record-length-more.ensures in
+    let more = tape_more c.args.calls.now c.loop-call.call-index _ c.record_length-more.result c.loop-call-test.true c.record_length-more.ensures in
     sym (lt-leb _ c.args.room (omega (arith, more, c.loop-call.invariant.0)))
 
 pub loop-call-preserved : goal.loop-call-preserved
 loop-call-preserved c =
-    let more = tape_more c.args.calls.now c.loop-call.call-index _ c.record-length-more.result c.loop-call-test.true c.record-length-more.ensures in
+    let more = tape_more c.args.calls.now c.loop-call.call-index _ c.record_length-more.result c.loop-call-test.true c.record_length-more.ensures in
     (omega (arith, more, c.loop-call.invariant.0), omega arith)
 
 pub returns : goal.returns

@@ -7,6 +7,6 @@ returns c =
     let at = c.args.at in
     let bytes = c.args.bytes.now in
     record {
-      after = put_mid-paste at (at + length bytes - at) c.args.buffer.now c.copy-from-slice.new.self bytes (length bytes) c.copy-from-slice.ensures.after (omega arith) refl;
+      after = put_mid-paste at (at + length bytes - at) c.args.buffer.now c.copy_from_slice.new.self bytes (length bytes) c.copy_from_slice.ensures.after (omega arith) refl;
       value = refl;
     }

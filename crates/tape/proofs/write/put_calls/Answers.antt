@@ -5,8 +5,8 @@ use Rattle.tape.specs.Writing.{over}
 use Rattle.tape.proofs.Requests.{record_fits, record_short, front_all, write_more, all_fit_more, all_fit_all}
 use Rattle.tape.proofs.write.put_calls.Goals as goal
 
-pub put-call-at-requires : goal.put-call-at-requires
-put-call-at-requires c =
+pub put_call-at-requires : goal.put_call-at-requires
+put_call-at-requires c =
     let calls = c.args.calls.now in
     let i = c.loop-call.call-index in
     let left = c.loop-call.invariant.0 in
@@ -21,10 +21,10 @@ loop-call-preserved c =
     let i = c.loop-call.call-index in
     let inv = c.loop-call.invariant in
     let more =
-    write_more calls i _ c.args.buffer.now c.loop-call.buffer c.put-call-at.new.buffer
-    c.loop-call.at c.put-call-at.result (length (tape_of (map request calls)))
-    c.loop-call-test.true c.requires.room inv.0 inv.1 inv.2 c.put-call-at.ensures.after c.put-call-at.ensures.value in
-    (more.0, more.1, more.2, all_fit_more calls i _ c.loop-call-test.true inv.3 c.put-call-at.ensures.fit)
+    write_more calls i _ c.args.buffer.now c.loop-call.buffer c.put_call-at.new.buffer
+    c.loop-call.at c.put_call-at.result (length (tape_of (map request calls)))
+    c.loop-call-test.true c.requires.room inv.0 inv.1 inv.2 c.put_call-at.ensures.after c.put_call-at.ensures.value in
+    (more.0, more.1, more.2, all_fit_more calls i _ c.loop-call-test.true inv.3 c.put_call-at.ensures.fit)
 
 pub returns : goal.returns
 returns c =

@@ -5,11 +5,11 @@ use Rattle.voting.proofs.busy.is_busy.Goals as goal
 pub transactions-init : goal.transactions-init
 transactions-init c = (refl, none_at_first c.args.transactions.now c.args.placement.now c.args.t c.args.x.now c.args.p)
 
-pub transactions-preserved-then-not-is-rival : goal.transactions-preserved-then-not-is-rival
-transactions-preserved-then-not-is-rival c = (
+pub transactions-preserved-then-not-is_rival : goal.transactions-preserved-then-not-is_rival
+transactions-preserved-then-not-is_rival c = (
   c.transactions.invariant.0,
   none_past_idle c.args.transactions.now c.args.placement.now c.args.t c.args.x.now c.args.p c.transactions.i _ (omega arith) c.transactions.invariant.1
-      (sym c.is-rival.ensures ∙ c.if-not-is-rival.true),
+      (sym c.is_rival.ensures ∙ c.if-not-is_rival.true),
 )
 
 pub loop-k-init : goal.loop-k-init
@@ -17,7 +17,7 @@ loop-k-init c = (c.transactions.invariant.0, apart_at_first c.args.placement.now
 
 pub loop-k-preserved : goal.loop-k-preserved
 loop-k-preserved c =
-    let apart = apart_more c.args.placement.now c.args.x.now _ c.args.p c.loop-k.k c.loop-k.invariant.1 (λ w placed. sym (c.conflict_at.ensures w placed) ∙ c.if-conflict-at.false) in (
+    let apart = apart_more c.args.placement.now c.args.x.now _ c.args.p c.loop-k.k c.loop-k.invariant.1 (λ w placed. sym (c.conflict_at.ensures w placed) ∙ c.if-conflict_at.false) in (
       c.loop-k.invariant.0,
       apart,
       λ last.
@@ -30,7 +30,7 @@ returns-after-transactions c w are placed x_is =
     c.transactions.invariant.0
     ∙ not_busy c.args.transactions.now c.args.placement.now c.args.t c.args.x.now c.args.p c.transactions.i (omega arith) c.transactions.invariant.1 w are placed x_is
 
-pub returns-then-conflict-at : goal.returns-then-conflict-at
-returns-then-conflict-at c =
+pub returns-then-conflict_at : goal.returns-then-conflict_at
+returns-then-conflict_at c =
     busy_with c.args.transactions.now c.args.placement.now c.args.t c.args.x.now c.args.p c.transactions.i _ (omega arith)
-    (sym c.is-rival.ensures ∙ c.if-not-is-rival.false) c.loop-k.k (omega arith) (λ w placed. sym (c.conflict_at.ensures w placed) ∙ c.if-conflict-at.true)
+    (sym c.is_rival.ensures ∙ c.if-not-is_rival.false) c.loop-k.k (omega arith) (λ w placed. sym (c.conflict_at.ensures w placed) ∙ c.if-conflict_at.true)

@@ -7,12 +7,12 @@ pub returns : goal.returns
 unfolding overtaken_key
 returns g c w placed stored = sym (lowest_none 64 0 (overtaken_at w c.args.x.now c.args.p) (λ j l. c.loop-k.invariant w placed stored j (omega arith)))
 
-pub returns-then-is-overtaken : goal.returns-then-is-overtaken
+pub returns-then-is_overtaken : goal.returns-then-is_overtaken
 unfolding overtaken_key
-returns-then-is-overtaken g c w placed stored =
+returns-then-is_overtaken g c w placed stored =
     sym (lowest_found 64 0 c.loop-k.k (overtaken_at w c.args.x.now c.args.p) (omega arith) (omega arith) (c.loop-k.invariant w placed stored)
-    (sym (c.is-overtaken.ensures w placed stored) ∙ c.if-is-overtaken.true))
+    (sym (c.is_overtaken.ensures w placed stored) ∙ c.if-is_overtaken.true))
 
 pub loop-k-preserved : goal.loop-k-preserved
 loop-k-preserved g c w placed stored =
-    below_more _ _ (c.loop-k.invariant w placed stored) (sym (c.is-overtaken.ensures w placed stored) ∙ c.if-is-overtaken.false)
+    below_more _ _ (c.loop-k.invariant w placed stored) (sym (c.is_overtaken.ensures w placed stored) ∙ c.if-is_overtaken.false)

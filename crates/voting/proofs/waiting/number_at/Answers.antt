@@ -6,5 +6,5 @@ use Rattle.voting.proofs.waiting.number_at.Goals as goal
 
 pub returns : goal.returns
 returns c w are =
-    c.number-at.ensures
+    c.number_at.ensures
     ∙ ap (λ (y : Transaction). slot y.numbers c.args.p) (record_of w c.args.transactions.now c.args.t c.from.result _ are c.from.ensures (omega arith) (omega arith))

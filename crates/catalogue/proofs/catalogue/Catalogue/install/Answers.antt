@@ -23,9 +23,9 @@ returns g c =
     let node_is = c.advanced.ensures.value ∙ ap (λ (n : Node). advanced x.stamp (has_seen x.commit n)) c.requires.node in
     record {
       world = worlds_with_store
-          (c.set-node.ensures.nodes ∙ (ap (λ (l : List Node). set l p c.advanced.result) c.update.ensures.nodes ∙ ap (λ (n : Node). set table.nodes.items p n) node_is))
-          (c.set-node.ensures.transactions ∙ (c.update.ensures.transactions ∙ ap (λ (y : Transaction). set table.transactions.items (c.args.t - 1) y) c.applied.ensures.value))
-          (c.set-node.ensures.placement ∙ c.update.ensures.placement)
-          (c.put-written.ensures.after (world_of table m) (sym c.placement.ensures));
-      rule = c.put-written.ensures.rule;
+          (c.set_node.ensures.nodes ∙ (ap (λ (l : List Node). set l p c.advanced.result) c.update.ensures.nodes ∙ ap (λ (n : Node). set table.nodes.items p n) node_is))
+          (c.set_node.ensures.transactions ∙ (c.update.ensures.transactions ∙ ap (λ (y : Transaction). set table.transactions.items (c.args.t - 1) y) c.applied.ensures.value))
+          (c.set_node.ensures.placement ∙ c.update.ensures.placement)
+          (c.put_written.ensures.after (world_of table m) (sym c.placement.ensures));
+      rule = c.put_written.ensures.rule;
     }

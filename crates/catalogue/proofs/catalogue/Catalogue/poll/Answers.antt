@@ -23,7 +23,7 @@ returns g c =
     let x = c.args.x in
     let done = c.update.ensures in
     record {
-      count = c.count-nodes.ensures ∙ ap (λ (byte : ℕ). length (nodes_of byte)) (c.polled-nodes.ensures m);
+      count = c.count_nodes.ensures ∙ ap (λ (byte : ℕ). length (nodes_of byte)) (c.polled-nodes.ensures m);
       world =
           world_updated before c.update.new.self m c.args.t c.offered.result done.transactions done.nodes done.placement
           ∙ ap (with_transaction w c.args.t) (c.offered.ensures.value ∙ ap (λ (byte : ℕ). is_now_offered byte x) (c.polled-nodes.ensures m));

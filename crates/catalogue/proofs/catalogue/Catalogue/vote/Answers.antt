@@ -12,8 +12,8 @@ returns-in-Ok g c =
     let told = c.in-Ok.ensures in
     record {
       outcome =
-          voted_yes (g.S.VersionStore.free self.store) self.table c.vote-yes-number.new.self m (g.S.VersionStore.meaning c.set-places.new.store) c.args.t c.args.p c.args.x (c.in-default.ensures (world_of self.table m) placed refl)
-          c.in-Ok.field-0 c.vote-yes-number.result (told.answer (world_of self.table fresh) placed) (told.after (world_of self.table fresh) placed) c.vote-yes-number.ensures;
+          voted_yes (g.S.VersionStore.free self.store) self.table c.vote_yes-number.new.self m (g.S.VersionStore.meaning c.set_places.new.store) c.args.t c.args.p c.args.x (c.in_default.ensures (world_of self.table m) placed refl)
+          c.in-Ok.field-0 c.vote_yes-number.result (told.answer (world_of self.table fresh) placed) (told.after (world_of self.table fresh) placed) c.vote_yes-number.ensures;
       rule = told.rule;
     }
 
@@ -23,10 +23,10 @@ returns-in-Err g c =
     let m = g.S.VersionStore.meaning self.store in
     let placed = sym c.placement-placement.ensures in
     let told = c.in-Err.ensures in
-    let after = c.vote-no-in-Err.ensures in
+    let after = c.vote_no-in-Err.ensures in
     record {
       outcome =
-          voted_no_place (g.S.VersionStore.free self.store) self.table c.vote-no-in-Err.new.self m (g.S.VersionStore.meaning c.set-places.new.store) c.args.t c.args.p c.args.x (c.in-default.ensures (world_of self.table m) placed refl)
+          voted_no_place (g.S.VersionStore.free self.store) self.table c.vote_no-in-Err.new.self m (g.S.VersionStore.meaning c.set_places.new.store) c.args.t c.args.p c.args.x (c.in_default.ensures (world_of self.table m) placed refl)
           c.in-Err.key (told.answer (world_of self.table fresh) placed) (told.after (world_of self.table fresh) placed) after.transactions after.nodes after.placement;
       rule = told.rule;
     }

@@ -13,8 +13,8 @@ returns-in-Ok c =
     let w = world_of c.args.self.now fresh in
     let t = c.args.t in
     let x = transaction w t in
-    let begun = ok_when (is_begun w t) c.in-ok-x.x x NoSuchTransaction c.in-ok-x.ensures.value in
-    let allowed = ok_when (may c.args.event c.in-ok-x.x) tt tt WrongState c.in-Ok.ensures.value in
+    let begun = ok_when (is_begun w t) c.in_ok-x.x x NoSuchTransaction c.in_ok-x.ensures.value in
+    let allowed = ok_when (may c.args.event c.in_ok-x.x) tt tt WrongState c.in-Ok.ensures.value in
     record {
       value =
           ap Ok begun.1
@@ -28,8 +28,8 @@ returns-in-Err c =
     let w = world_of c.args.self.now fresh in
     let t = c.args.t in
     let x = transaction w t in
-    let begun = ok_when (is_begun w t) c.in-ok-x.x x NoSuchTransaction c.in-ok-x.ensures.value in
-    let not = err_when (may c.args.event c.in-ok-x.x) tt c.in-Err.refusal WrongState c.in-Err.ensures.value in
+    let begun = ok_when (is_begun w t) c.in_ok-x.x x NoSuchTransaction c.in_ok-x.ensures.value in
+    let not = err_when (may c.args.event c.in_ok-x.x) tt c.in-Err.refusal WrongState c.in-Err.ensures.value in
     record {
       value =
           ap Err not.1

@@ -19,11 +19,11 @@ returns-in-Ok c =
     let k = c.args.k in
     let p = c.args.p in
     let x = transaction w t in
-    let begun = ok_when (is_begun w t) c.in-ok-x.x x NoSuchTransaction c.in-ok-x.ensures.value in
-    let there = ok_when (is_node w p) c.in-ok-n.n (node w p) NoSuchNode c.in-ok-n.ensures.value in
-    let key : is_key w k ≡ true = sym c.if-not-has-key.ensures.value in
+    let begun = ok_when (is_begun w t) c.in_ok-x.x x NoSuchTransaction c.in_ok-x.ensures.value in
+    let there = ok_when (is_node w p) c.in_ok-n.n (node w p) NoSuchNode c.in_ok-n.ensures.value in
+    let key : is_key w k ≡ true = sym c.if-not-has_key.ensures.value in
     let held : holds w p k ≡ true = sym c.if-not-holds.ensures in
-    let allowed = ok_when (may Read c.in-ok-x.x) tt tt WrongState c.in-Ok.ensures.value in
+    let allowed = ok_when (may Read c.in_ok-x.x) tt tt WrongState c.in-Ok.ensures.value in
     let may_read : may Read x ≡ true = sym (ap (may Read) begun.1) ∙ allowed.0 in
     record {
       call = λ m.
@@ -34,7 +34,7 @@ returns-in-Ok c =
           (past (holds v p k) _ (refuse v KeyNotHeld) _ held
           (past (may Read x) (read_open v t k p x (get_or x.written k None)) (refuse v WrongState) _ may_read
           (ap (λ (y : Transaction). read_open v t k p y (get_or y.written k None)) (sym begun.1))))));
-      known = (begun.0, begun.1, there.1, c.in-ok-n.ensures.within.1, c.if-not-has-key.ensures.bound refl, c.in-ok-x.ensures.within);
+      known = (begun.0, begun.1, there.1, c.in_ok-n.ensures.within.1, c.if-not-has_key.ensures.bound refl, c.in_ok-x.ensures.within);
     }
 
 pub returns-in-Err : goal.returns-in-Err
@@ -44,11 +44,11 @@ returns-in-Err c =
     let k = c.args.k in
     let p = c.args.p in
     let x = transaction w t in
-    let begun = ok_when (is_begun w t) c.in-ok-x.x x NoSuchTransaction c.in-ok-x.ensures.value in
-    let there = ok_when (is_node w p) c.in-ok-n.n (node w p) NoSuchNode c.in-ok-n.ensures.value in
-    let key : is_key w k ≡ true = sym c.if-not-has-key.ensures.value in
+    let begun = ok_when (is_begun w t) c.in_ok-x.x x NoSuchTransaction c.in_ok-x.ensures.value in
+    let there = ok_when (is_node w p) c.in_ok-n.n (node w p) NoSuchNode c.in_ok-n.ensures.value in
+    let key : is_key w k ≡ true = sym c.if-not-has_key.ensures.value in
     let held : holds w p k ≡ true = sym c.if-not-holds.ensures in
-    let not = err_when (may Read c.in-ok-x.x) tt c.in-Err.refusal WrongState c.in-Err.ensures.value in
+    let not = err_when (may Read c.in_ok-x.x) tt c.in-Err.refusal WrongState c.in-Err.ensures.value in
     record {
       call = λ m.
           let v : World = world_of c.args.self.now m in

@@ -4,8 +4,8 @@ use Rattle.records.specs.Bounds.{most, TransactionWithin}
 use Rattle.catalogue.proofs.Bounded.{kept_most}
 use Rattle.catalogue.proofs.table.Table.update_within.Goals as goal
 
-pub set-transaction-requires : goal.set-transaction-requires
-set-transaction-requires c =
+pub set_transaction-requires : goal.set_transaction-requires
+set_transaction-requires c =
     let table = c.args.self.now in
     let xs = table.transactions.items in
     let begun = c.requires.begun in
@@ -24,7 +24,7 @@ returns c =
     let xs = table.transactions.items in
     let begun = c.requires.begun in
     let inside : c.args.t - 1 < length xs = grind (arith, nat_tests) in
-    let done = c.set-transaction.ensures in
+    let done = c.set_transaction.ensures in
     record {
       transactions = done.transactions;
       nodes = done.nodes;

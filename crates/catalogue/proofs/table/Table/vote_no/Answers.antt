@@ -8,5 +8,5 @@ raise-requires c =
     let b = most table.transactions.items in
     record {
       begun = c.requires.begun;
-      raised = raises_known table c.args.t c.args.x c.voted-no.result c.requires.record (λ (w : TransactionWithin b c.args.x). c.voted-no.ensures.raised b c.requires.node c.requires.unvoted w);
+      raised = raises_known table c.args.t c.args.x c.voted_no.result c.requires.record (λ (w : TransactionWithin b c.args.x). c.voted_no.ensures.raised b c.requires.node c.requires.unvoted w);
     }

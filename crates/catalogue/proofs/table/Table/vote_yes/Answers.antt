@@ -20,6 +20,6 @@ raise-requires-2 c =
     let voter = node_known table c.args.p c.args.n c.requires.voter in
     record {
       begun = c.requires.begun;
-      raised = raises_known table c.args.t c.args.x c.numbered-yes.result c.requires.record
-          (λ (w : TransactionWithin b c.args.x). c.numbered-yes.ensures.raised b c.requires.node c.requires.unvoted w voter.2 c.next-number-number.ensures.bound);
+      raised = raises_known table c.args.t c.args.x c.numbered_yes.result c.requires.record
+          (λ (w : TransactionWithin b c.args.x). c.numbered_yes.ensures.raised b c.requires.node c.requires.unvoted w voter.2 c.next_number-number.ensures.bound);
     }

@@ -22,9 +22,9 @@ returns-in-Ok c =
     let t = c.args.t in
     let k = c.args.k in
     let x = transaction w t in
-    let begun = ok_when (is_begun w t) c.in-ok-x.x x NoSuchTransaction c.in-ok-x.ensures.value in
-    let key : is_key w k ≡ true = sym c.if-not-has-key.ensures.value in
-    let allowed = ok_when (may Write c.in-ok-x.x) tt tt WrongState c.in-Ok.ensures.value in
+    let begun = ok_when (is_begun w t) c.in_ok-x.x x NoSuchTransaction c.in_ok-x.ensures.value in
+    let key : is_key w k ≡ true = sym c.if-not-has_key.ensures.value in
+    let allowed = ok_when (may Write c.in_ok-x.x) tt tt WrongState c.in-Ok.ensures.value in
     record {
       call = λ m value.
           let v : World = world_of c.args.self.now m in
@@ -40,9 +40,9 @@ returns-in-Err c =
     let t = c.args.t in
     let k = c.args.k in
     let x = transaction w t in
-    let begun = ok_when (is_begun w t) c.in-ok-x.x x NoSuchTransaction c.in-ok-x.ensures.value in
-    let key : is_key w k ≡ true = sym c.if-not-has-key.ensures.value in
-    let not = err_when (may Write c.in-ok-x.x) tt c.in-Err.refusal WrongState c.in-Err.ensures.value in
+    let begun = ok_when (is_begun w t) c.in_ok-x.x x NoSuchTransaction c.in_ok-x.ensures.value in
+    let key : is_key w k ≡ true = sym c.if-not-has_key.ensures.value in
+    let not = err_when (may Write c.in_ok-x.x) tt c.in-Err.refusal WrongState c.in-Err.ensures.value in
     record {
       call = λ m value.
           let v : World = world_of c.args.self.now m in

@@ -13,6 +13,6 @@ returns c =
     let k = c.args.k in
     let after = has_noted k c.args.writer x in
     record {
-      value = with_room (can_note x k) c.has_noted.result after TooManyKeysRead c.if-not-has-room.ensures c.has_noted.ensures;
+      value = with_room (can_note x k) c.has_noted.result after TooManyKeysRead c.if-not-has_room.ensures c.has_noted.ensures;
       kept = subst (Keeps x) (sym c.has_noted.ensures) (keeps_same x after refl refl refl refl refl refl refl);
     }

@@ -9,6 +9,6 @@ returns c =
     let x = c.args.x in
     let p = c.args.p in
     record {
-      value = c.has-no.ensures;
-      raised = λ b (small : p < 8) (unvoted : marked x.voted p ≡ false) (w : TransactionWithin b x). no_raises b x p w small unvoted _ c.has-no.ensures;
+      value = c.has_no.ensures;
+      raised = λ b (small : p < 8) (unvoted : marked x.voted p ≡ false) (w : TransactionWithin b x). no_raises b x p w small unvoted _ c.has_no.ensures;
     }

@@ -13,6 +13,6 @@ returns c =
     let k = c.args.k in
     let after = has_written k c.args.value x in
     record {
-      value = with_room (wrote x k || ltb (how_many x.written) 8) c.has_written.result after TooManyKeysWritten c.if-not-has-room.ensures c.has_written.ensures;
+      value = with_room (wrote x k || ltb (how_many x.written) 8) c.has_written.result after TooManyKeysWritten c.if-not-has_room.ensures c.has_written.ensures;
       kept = subst (Keeps x) (sym c.has_written.ensures) (keeps_same x after refl refl refl refl refl refl refl);
     }

@@ -5,7 +5,7 @@ use Rattle.roll.proofs.table.Roll.aside_at.Goals as goal
 pub returns : goal.returns
 returns c =
     let r = c.args.self.now in
-    let at = sym c.chain-index.ensures ∙ c.in-ok-i.was in
-    let is = moves.covered r c.args.node c.args.key c.in-ok-i.i c.index.result.now at c.index.ensures in
+    let at = sym c.chain_index.ensures ∙ c.in_ok-i.was in
+    let is = moves.covered r c.args.node c.args.key c.in_ok-i.i c.index.result.now at c.index.ensures in
     let few = r.fits in
-    record { value = moves.aside_read r c.args.node c.args.key c.in-ok-i.i c.index.result.now at c.index.ensures; bound = omega arith }
+    record { value = moves.aside_read r c.args.node c.args.key c.in_ok-i.i c.index.result.now at c.index.ensures; bound = omega arith }

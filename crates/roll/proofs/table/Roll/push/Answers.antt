@@ -4,31 +4,37 @@ use Rattle.roll.specs.declared.entry.Entry.{Entry}
 use Rattle.roll.specs.Moves as moves
 use Rattle.roll.proofs.table.Roll.push.Goals as goal
 
-pub push-reserved-requires : goal.push-reserved-requires
-push-reserved-requires c =
+pub push_reserved-requires : goal.push_reserved-requires
+push_reserved-requires c =
     let r = c.args.self.now in
     let left = moves.room_is r in
     let free = c.requires.free in
     let roomy = r.roomy in
     omega arith
 
-pub invariant-of-self : goal.invariant-of-self
-invariant-of-self c =
+pub invariant_of-self : goal.invariant_of-self
+invariant_of-self c =
     let r = c.args.self.now in
     let within = c.requires.within in
     let node_is : c.args.node < 8 = grind (arith, nat_tests) in
     let key_is : c.args.key < 64 = grind (arith, nat_tests) in
     let e : Entry = record { node = c.args.node; key = c.args.key; version = c.args.version } in
-    let es = c.push-reserved.new.self.items in
-    let pushed = c.push-reserved.ensures.items in
+    let es = c.push_reserved.new.self.items in
+    let pushed = c.push_reserved.ensures.items in
     let aside = moves.pushed_aside r e node_is key_is es pushed in
     let stored = moves.pushed_stored r e node_is key_is es pushed in
-    let len = c.push-reserved.ensures.len in
-    let cap = c.push-reserved.ensures.capacity in
+    let len = c.push_reserved.ensures.len in
+    let cap = c.push_reserved.ensures.capacity in
     let left = moves.room_is r in
     let free = c.requires.free in
     let roomy = r.roomy in
-    (omega arith, (r.whole, (omega arith, (omega arith, (aside, tt)))))
+    record {
+      roomy = omega arith;
+      whole = r.whole;
+      fits = omega arith;
+      counted = omega arith;
+      summed = aside;
+    }
 
 pub returns : goal.returns
 returns c =
@@ -37,6 +43,6 @@ returns c =
     let node_is : c.args.node < 8 = grind (arith, nat_tests) in
     let key_is : c.args.key < 64 = grind (arith, nat_tests) in
     let e : Entry = record { node = c.args.node; key = c.args.key; version = c.args.version } in
-    let es = c.push-reserved.new.self.items in
-    let pushed = c.push-reserved.ensures.items in
+    let es = c.push_reserved.new.self.items in
+    let pushed = c.push_reserved.ensures.items in
     record { after = moves.pushed_is r e node_is key_is es pushed; room = moves.pushed_room r e node_is key_is es pushed c.requires.free }

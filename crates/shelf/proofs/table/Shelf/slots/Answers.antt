@@ -7,4 +7,4 @@ pub returns : goal.returns
 unfolding shelf_meaning
 returns c =
     let v = c.args.self.now.chains in
-    slots_read v.items c.args.node c.args.key c.in-ok-i.i (sym c.chain-index.ensures ∙ c.in-ok-i.was) (sym v.ok.0 ∙ c.args.self.now.whole) c.index.result.now c.index.ensures
+    slots_read v.items c.args.node c.args.key c.in_ok-i.i (sym c.chain_index.ensures ∙ c.in_ok-i.was) (sym v.ok.0 ∙ c.args.self.now.whole) c.index.result.now c.index.ensures

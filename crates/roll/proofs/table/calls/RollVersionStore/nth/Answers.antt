@@ -1,4 +1,4 @@
-use Rattle.std.proofs.Common.{◌≡◌, sym, ap, ◌∙◌, arith, take_all}
+use Rattle.std.proofs.Common.{◌≡◌, ap, ◌∙◌, arith, take_all}
 use Rattle.store.specs.Model.{nth_of}
 use Rattle.roll.specs.Entries.{versions_of}
 use Rattle.roll.proofs.Walk as walk

@@ -9,11 +9,11 @@ use Rattle.calls.specs.Requests.{Request, request}
 use Rattle.store.specs.Model.{FreeRule}
 use Rattle.rules.specs.World.{World}
 use Rattle.rules.specs.Steps.{can_make, made_world, step, answers_of, world_after}
-use Rattle.rules.specs.Transcript.{Transcript, with_answers}
+use Rattle.rules.specs.Transcript.{Transcript, transcript, with_answers}
 use Rattle.rules.specs.Promises.{Promises}
 use Rattle.rules.proofs.Answered.{answers_told}
 use Rattle.rules.proofs.Good.{promises_kept}
-use Rattle.runs.specs.Runs.{Performed, Ran}
+use Rattle.catalogue.specs.Runs.{Performed, Ran}
 
 answers_push : (free : FreeRule) (w : World) (rs : List Request) (r : Request) → answers_of free w (rs ++ r ∷ []) ≡ answers_of free w rs ++ (step free (world_after free w rs) r).0 ∷ []
 unfolding answers_of world_after
@@ -57,9 +57,15 @@ ran free rule nodes keys placement w after requests answers ok made same done =
     let fits : can_make nodes (length placement) placement ≡ true = grind (arith, nat_tests) in
     let done' : Performed rule (made_world nodes placement) requests answers after =
     subst (λ (v : World). Performed rule v requests answers after) made (subst (λ (f : FreeRule). Performed f w requests answers after) (sym same) done) in
-    let told = ap (λ (l : List Answer). with_answers requests l []) done'.answered ∙ answers_told rule (made_world nodes placement) requests [] in
     record {
       made = ok;
       performed = done';
-      promises = subst (λ (v : World). Promises rule (with_answers requests answers []) v) (sym done'.world) (subst (λ (calls : Transcript). Promises rule calls (world_after rule (made_world nodes placement) requests)) (sym told) (promises_kept rule nodes placement fits requests));
+      promises = subst (λ (v : World). Promises rule (transcript rule (made_world nodes placement) requests) v) (sym done'.world) (promises_kept rule nodes placement fits requests);
     }
+
+-- Its promises are kept of the calls with the answers that were given: they are those of the rules.
+pub told : (free : FreeRule) (nodes keys : ℕ) (placement : List ℕ) (requests : List Request) (answers : List Answer) (after : World)
+    → Ran free nodes keys placement requests answers after → Promises free (with_answers requests answers []) after
+told free nodes keys placement requests answers after run =
+    let given = ap (λ (l : List Answer). with_answers requests l []) run.performed.answered ∙ answers_told free (made_world nodes placement) requests [] in
+    subst (λ (calls : Transcript). Promises free calls after) (sym given) run.promises

@@ -3,11 +3,11 @@
 ghost use Rattle.std.specs.Prelude.{◌≡◌};
 ghost use Rattle.catalogue.specs.Replies.{begun, done, found, polled, voted, decided, applied};
 
+use crate::decision::Decision;
+use crate::vote::Vote;
 use calls::answer::Answer;
 use calls::refusal::Refusal;
 use calls::sizes::{StoredValue, TransactionNumber};
-use catalogue::decision::Decision;
-use catalogue::vote::Vote;
 
 /// The answer to a begin.
 pub fn of_begin(r: Result<TransactionNumber, Refusal>) -> Answer
