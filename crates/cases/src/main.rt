@@ -1,5 +1,6 @@
 //! Runs tapes whose answers are known, over both stores. Each tape has a title. Its listing over the shelf follows, and then, only where it is another one,
 //! its listing over the roll.
+#![tactic(auto)]
 
 /// The calls by short names.
 macro_rules! make {

@@ -1,15 +1,12 @@
 -- How the bound on numbers follows a change of the tables.
-use Rattle.std.proofs.Common.{◌≡◌, ℕ, zero, suc, ◌+◌, ◌-◌, ◌*◌, ◌<◌, ◌≤◌, Bool, true, false, cond, List, [], ◌∷◌, ◌++◌, length, get_or, set, replicate, sym, refl, ap, ◌∙◌, subst, ⊎_elim, arith}
-use Rattle.std.proofs.lemmas.List.{get_or-set_same, get_or-set_other, set_past}
-use Rattle.std.proofs.lemmas.Bool.{cases_eq, cases_lt}
-use Rattle.clock.specs.Clocks.{slot, marked}
+use Rattle.std.proofs.Common.{◌≡◌, ℕ, zero, suc, ◌+◌, ◌<◌, ◌≤◌, List, [], ◌∷◌, ◌++◌, length, get_or, set, replicate, refl, arith}
 use Rattle.rules.specs.declared.records.Kind.{Kind}
 use Rattle.rules.specs.declared.records.Kind.TheVariants.{Search}
 use Rattle.rules.specs.declared.records.Node.{Node}
 use Rattle.rules.specs.declared.records.Transaction.{Transaction}
 use Rattle.rules.specs.World.{zero_clock, new_node, new_transaction}
 use Rattle.records.proofs.Bounded.{clock_more, each_set}
-use Rattle.records.specs.Bounds.{count_below, is_committed, raised_by, raised, most, ClockWithin, CollectedWithin, DecidedWithin, TransactionWithin, NodeWithin, NodesWithin, AllCollectedWithin, AllDecidedWithin, Keeps, Raises}
+use Rattle.records.specs.Bounds.{raised_by, raised, most, ClockWithin, CollectedWithin, DecidedWithin, TransactionWithin, NodeWithin, NodesWithin, AllCollectedWithin, AllDecidedWithin}
 
 abbrev blank : Transaction
 blank = new_transaction Search

@@ -1,9 +1,8 @@
 -- What a make makes.
 use Rattle.std.proofs.Common.{◌≡◌, ℕ, zero, suc, ◌-◌, List, [], ◌++◌, get_or, take, replicate, sym, refl, ap, ◌∙◌, subst, arith}
-use Rattle.rules.specs.declared.records.Kind.TheVariants.{Search}
 use Rattle.rules.specs.declared.records.Node.{Node}
 use Rattle.rules.specs.declared.records.Transaction.{Transaction}
-use Rattle.rules.specs.World.{new_node, new_transaction}
+use Rattle.rules.specs.World.{new_node}
 use Rattle.records.specs.Bounds.{raised, most, NodeWithin, NodesWithin, AllCollectedWithin, AllDecidedWithin}
 use Rattle.catalogue.proofs.Bounded.{zero_within, blank_within}
 

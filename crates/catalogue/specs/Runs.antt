@@ -1,7 +1,6 @@
 -- A whole run: the answers, the world after, and what is promised of both.
-use Rattle.std.specs.Prelude.{◌≡◌, ℕ, true, false, List, length}
+use Rattle.std.specs.Prelude.{◌≡◌, ℕ, true, List}
 use Rattle.calls.specs.declared.answer.Answer.{Answer}
-use Rattle.calls.specs.declared.refusal.Refusal.TheVariants.{MakeOutOfBounds}
 use Rattle.calls.specs.Requests.{Request}
 use Rattle.store.specs.Model.{FreeRule}
 use Rattle.rules.specs.World.{World}

@@ -1,4 +1,5 @@
 //! The catalogue: ten calls over any version store.
+#![tactic(auto)]
 
 pub mod catalogue;
 pub mod decision;

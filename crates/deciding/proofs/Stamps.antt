@@ -1,10 +1,9 @@
 -- The stamp of a commit and the commit clock, and how high they can be.
-use Rattle.std.proofs.Common.{◌≡◌, ℕ, ◌+◌, ◌^◌, ◌<◌, ◌≤◌, max, Bool, true, false, cond, ltb, List, [], map, length, get_or, set, Some, None, Option, sym, refl, ap, ◌∙◌, subst, arith, length-set, below_more}
-use Rattle.std.specs.List.{range_with_len}
+use Rattle.std.proofs.Common.{◌≡◌, ℕ, ◌+◌, ◌^◌, ◌<◌, ◌≤◌, max, Bool, true, false, cond, ltb, List, [], length, get_or, set, Some, None, Option, sym, refl, ap, ◌∙◌, subst, arith, length-set, below_more}
 use Rattle.std.proofs.lemmas.List.FromFn.{fill_by_all}
 use Rattle.std.proofs.lemmas.List.{get_or-set_same, get_or-set_other}
 use Rattle.std.proofs.lemmas.Bool.{cond-true, cond_both, lt-ltb}
-use Rattle.clock.specs.Clocks.{slot, join}
+use Rattle.clock.specs.Clocks.{slot}
 use Rattle.clock.specs.Numbers.{highest, stamp_number, if_fits}
 use Rattle.clock.proofs.Least.{highest_below, some_leaves, least_leaving}
 use Rattle.store.specs.Model.{fresh}

@@ -1,4 +1,5 @@
 //! The commit of an update: its stamp and its commit clock.
+#![tactic(auto)]
 
 ghost use Rattle.std.specs.Prelude.{◌≡◌, ℕ, ◌+◌, ◌^◌, ◌<◌, ◌≤◌, if◌then◌else◌, Some, None, nat_lt};
 ghost use Rattle.clock.specs.Clocks.{slot};

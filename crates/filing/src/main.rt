@@ -1,4 +1,6 @@
 // A document is filed, moved and looked up again, over each of the two stores.
+#![tactic(auto)]
+
 mod fifth;
 mod task;
 

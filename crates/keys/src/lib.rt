@@ -1,4 +1,5 @@
 //! The keys that a transaction names, and the nodes that hold them.
+#![tactic(auto)]
 
 pub mod named;
 pub mod placing;

@@ -4,7 +4,7 @@ use Rattle.std.proofs.lemmas.Bool.Decides.{nat_tests}
 use Rattle.std.proofs.lemmas.List.{take_more, map_push}
 use Rattle.calls.specs.declared.answer.Answer.{Answer}
 use Rattle.calls.specs.declared.answer.Answer.TheVariants.{Done, Refused}
-use Rattle.calls.specs.declared.refusal.Refusal.TheVariants.{MakeOutOfBounds, UnreadableTape}
+use Rattle.calls.specs.declared.refusal.Refusal.TheVariants.{MakeOutOfBounds}
 use Rattle.calls.specs.declared.call.Call.TheVariants.{Make}
 use Rattle.calls.specs.Requests.{Request, make, begin, read, write, offer, prepare, decide, cancel, learn, apply, finish}
 use Rattle.tape.specs.declared.record.Record.{Record}

@@ -1,4 +1,5 @@
 //! A tape run on a new unit, over any store.
+#![tactic(auto)]
 
 ghost use Rattle.std.specs.Prelude.{◌≡◌, map, MatchResult};
 ghost use Rattle.calls.specs.Requests.{request};

@@ -1,4 +1,5 @@
 //! Runs the tape on standard input on a new unit over the shelf, and prints a line for each record.
+#![tactic(auto)]
 
 use anyhow::anyhow;
 use listing::listing_of;

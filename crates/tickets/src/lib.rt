@@ -1,4 +1,5 @@
 //! Tickets: a transaction that is begun by ticket has to be ended, or the program is not proved.
+#![tactic(auto)]
 
 pub mod offered;
 pub mod reader;

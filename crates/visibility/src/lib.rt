@@ -1,4 +1,5 @@
 //! What a transaction may see at a node: its clock after a read there, and the version of a key that it gets.
+#![tactic(auto)]
 
 ghost use Rattle.std.specs.Prelude.{◌≡◌, ℕ, ◌<◌, ◌≤◌, true, [], if◌then◌else◌, fold, ◌==◌, slice_index_or, slice_set};
 ghost use Rattle.clock.specs.Clocks.{slot, marked, passes};

@@ -1,4 +1,5 @@
 //! What a node looks at and does in its store before and after a vote.
+#![tactic(auto)]
 
 pub mod busy;
 mod marks;

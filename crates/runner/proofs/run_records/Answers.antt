@@ -1,4 +1,4 @@
-use Rattle.std.proofs.Common.{◌≡◌, ◌+◌, List, map, get_or, take, sym, refl, ap, ◌∙◌, subst}
+use Rattle.std.proofs.Common.{List, map, get_or, take, subst}
 use Rattle.std.proofs.lemmas.List.{take_all}
 use Rattle.tape.specs.declared.record.Record.{Record}
 use Rattle.tape.specs.Reading.{Entry}

@@ -1,4 +1,4 @@
-use Rattle.std.proofs.Common.{◌≡◌, ℕ, ◌≤◌, List, get_or, sym, subst}
+use Rattle.std.proofs.Common.{ℕ, ◌≤◌, List, get_or, sym, subst}
 use Rattle.clock.specs.Clocks.{slot}
 use Rattle.rules.specs.declared.records.Kind.TheVariants.{Search}
 use Rattle.rules.specs.declared.records.Transaction.{Transaction}

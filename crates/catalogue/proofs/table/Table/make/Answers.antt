@@ -1,7 +1,6 @@
-use Rattle.std.proofs.Common.{◌≡◌, [], replicate, sym, refl, ap, ◌∙◌, arith}
+use Rattle.std.proofs.Common.{replicate, refl, ap, ◌∙◌, arith}
 use Rattle.store.specs.Model.{fresh}
-use Rattle.rules.specs.declared.records.Node.{Node}
-use Rattle.rules.specs.World.{World, new_node}
+use Rattle.rules.specs.World.{new_node}
 use Rattle.records.specs.Bounds.{most}
 use Rattle.catalogue.proofs.Makes.{filled, made_nodes, made_collected, made_decided}
 use Rattle.catalogue.proofs.table.Table.make.Goals as goal

@@ -2,7 +2,7 @@ use Rattle.std.proofs.Common.{◌≡◌, true, get_or, None, sym, refl, ap, ◌�
 use Rattle.std.proofs.lemmas.Bool.{cond-false}
 use Rattle.calls.specs.declared.refusal.Refusal.{Refusal}
 use Rattle.calls.specs.declared.refusal.Refusal.TheVariants.{NoSuchTransaction, NoSuchNode, NoSuchKey, KeyNotHeld, WrongState}
-use Rattle.store.specs.Model.{Meaning, fresh}
+use Rattle.store.specs.Model.{fresh}
 use Rattle.rules.specs.declared.records.Event.TheVariants.{Read}
 use Rattle.rules.specs.declared.records.Transaction.{Transaction}
 use Rattle.rules.specs.World.{World, refuse, is_begun, is_node, is_key, holds, node, transaction}

@@ -1,4 +1,4 @@
-use Rattle.std.proofs.Common.{◌≡◌, ℕ, ◌-◌, ◌<◌, ◌≤◌, length, get_or, set, sym, ap, ◌∙◌, subst, arith}
+use Rattle.std.proofs.Common.{◌≡◌, ℕ, ◌-◌, ◌<◌, ◌≤◌, length, get_or, set, subst, arith}
 use Rattle.rules.specs.declared.records.Kind.TheVariants.{Search}
 use Rattle.rules.specs.World.{new_transaction}
 use Rattle.records.specs.Bounds.{most, raised_by, TransactionWithin}

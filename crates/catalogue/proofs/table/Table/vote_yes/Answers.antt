@@ -1,4 +1,3 @@
-use Rattle.std.proofs.Common.{arith}
 use Rattle.records.specs.Bounds.{most, TransactionWithin}
 use Rattle.catalogue.proofs.Known.{node_known, raises_known}
 use Rattle.catalogue.proofs.table.Table.vote_yes.Goals as goal
