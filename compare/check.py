@@ -1,7 +1,7 @@
 #!/usr/bin/env python3
 """Compares the proved programs with the comparison, tape by tape. Started by run.sh.
 
-    check.py SEED COUNT FOLDER-OF-THE-PROVED-PROGRAMS COMPARISON
+    check.py SEED COUNT FOLDER-OF-THE-CRATES COMPARISON
 """
 
 import collections
@@ -46,7 +46,7 @@ def first_difference(ours, theirs):
 def compare(bytes_of_tape, proved, comparison, counts):
     """Compares the listings of a tape over both stores, and counts the lines."""
     for store, program in STORES.items():
-        ours = listing([os.path.join(proved, program)], bytes_of_tape)
+        ours = listing([os.path.join(proved, program, "out", program)], bytes_of_tape)
         theirs = listing([comparison, store], bytes_of_tape)
         if ours != theirs:
             raise Different(f"over the {store}, {first_difference(ours, theirs)}")

@@ -9,10 +9,10 @@ set -eu
 seed=${1:-1}
 count=${2:-2000}
 here=$(cd "$(dirname "$0")" && pwd)
-proved=$here/../target/bin
+proved=$here/../crates
 for program in runshelf runroll; do
-    if [ ! -x "$proved/$program" ]; then
-        echo "target/bin/$program is missing; build it from the root of the repository by: rt check runshelf runroll" >&2
+    if [ ! -x "$proved/$program/out/$program" ]; then
+        echo "crates/$program/out/$program is missing; build it in crates/$program by: rt run < stdin" >&2
         exit 1
     fi
 done

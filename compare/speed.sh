@@ -5,11 +5,11 @@
 #     compare/speed.sh
 set -eu
 here=$(cd "$(dirname "$0")" && pwd)
-proved=$here/../target/bin
+proved=$here/../crates
 comparison=$here/target/release/compare
 for program in runshelf runroll; do
-    if [ ! -x "$proved/$program" ]; then
-        echo "target/bin/$program is missing; build it from the root of the repository by: rt check runshelf runroll" >&2
+    if [ ! -x "$proved/$program/out/$program" ]; then
+        echo "crates/$program/out/$program is missing; build it in crates/$program by: rt run < stdin" >&2
         exit 1
     fi
 done
@@ -32,7 +32,7 @@ done
 printf '%-12s %-6s %14s %14s %8s %14s\n' tape store proved comparison ratio 'without start'
 for store in shelf roll; do
     for name in empty uncontended contended reading; do
-        ours=$(instructions "$folder/$name.tape" "$proved/run$store")
+        ours=$(instructions "$folder/$name.tape" "$proved/run$store/out/run$store")
         mv "$folder/listing" "$folder/ours"
         theirs=$(instructions "$folder/$name.tape" "$comparison" "$store")
         if ! cmp -s "$folder/ours" "$folder/listing"; then

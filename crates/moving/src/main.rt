@@ -1,5 +1,6 @@
 //! A document is moved from one folder to another by tickets, over each of the two stores, while Searches look for it. None of them finds it
 //! in no folder.
+#![tactic(auto)]
 
 mod folders;
 mod report;
