@@ -76,15 +76,15 @@ macro_rules! finish {
 }
 
 mod full;
+mod limits;
 mod orders;
-mod records;
 mod show;
 mod states;
 mod three_nodes;
 
 use full::{all_numbers_begun, roll_full, shelf_full};
+use limits::{damaged, makes, no_such, unwritable};
 use orders::{nine_keys, not_yet, overtaken};
-use records::{damaged, makes, no_such, unwritable};
 use states::states;
 use three_nodes::three_nodes;
 

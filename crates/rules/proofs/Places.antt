@@ -3,7 +3,7 @@ use Rattle.std.proofs.Common.{◌≡◌, ℕ, zero, suc, ◌+◌, ◌-◌, ◌<�
 use Rattle.std.proofs.lemmas.List.{get_or-set_same, get_or-set_other}
 use Rattle.std.proofs.lemmas.Bool.{cases_Bool, cases_eq, cond-true, cond-false, and_parts, and_from, and_left, eq-eqb, ne_eqb, lt-ltb}
 use Rattle.std.proofs.lemmas.Bool.Decides.{nat_tests}
-use Rattle.std.specs.List.{AllByRecursion as All}
+use Rattle.std.specs.List.{AllByRecursion}
 use Rattle.clock.specs.Clocks.{marked}
 use Rattle.store.specs.declared.Version.{Version}
 use Rattle.store.specs.Model.{Chain, Meaning, FreeRule, aside_granted, aside_after, in_range, with_chain, aside_there, back_after, put_after, one_put, one_back}
@@ -29,7 +29,7 @@ pub back_versions : (m : Meaning) (p : ℕ) (ks : List ℕ) (q k : ℕ) → (all
 back_versions m p ks q k = versions_kept (eqb q p && in_range q k) (m q k) ((m q k).aside - asked ks k)
 
 -- The key for which no place is left is one of those asked for.
-pub refused_member : (free : FreeRule) (p : ℕ) (P : ℕ → Type 0) (m : Meaning) (ks : List ℕ) (k : ℕ) → All P ks → first_refused free m p ks ≡ Err k → P k
+pub refused_member : (free : FreeRule) (p : ℕ) (P : ℕ → Type 0) (m : Meaning) (ks : List ℕ) (k : ℕ) → AllByRecursion P ks → first_refused free m p ks ≡ Err k → P k
 unfolding first_refused
 refused_member free p P m [] k all e = let z : ◌≡◌ {A = ℕ} 0 1 = cc in absurd (omega arith)
 refused_member free p P m (j ∷ js) k all e =

@@ -1,6 +1,6 @@
 -- The keys that a transaction writes at a node.
 use Rattle.std.proofs.Common.{◌≡◌, ℕ, zero, suc, ◌+◌, ◌<◌, ◌≤◌, Bool, true, false, cond, ◌&&◌, ltb, leb, List, [], ◌∷◌, filter, ap, ◌∙◌, subst, ⊎_elim, arith}
-use Rattle.std.specs.List.{range_with_len, AllByRecursion as All}
+use Rattle.std.specs.List.{range_with_len, AllByRecursion}
 use Rattle.std.proofs.ByRecursion.{kept_by_passes}
 use Rattle.std.proofs.lemmas.Bool.{cases_Bool, cases_eq, cond-true, cond-false, cond_both}
 use Rattle.std.proofs.lemmas.Bool.Decides.{nat_tests}
@@ -66,6 +66,6 @@ module _ (w : World) (x : Transaction) (p : ℕ) where
   written_ascend = ascend_kept (λ j. wrote x j && holds w p j) 0 64
 
   -- All of them are written and held.
-  pub written_members : All (λ k. (wrote x k && holds w p k) ≡ true) (written_at w x p)
+  pub written_members : AllByRecursion (λ k. (wrote x k && holds w p k) ≡ true) (written_at w x p)
   unfolding written_at
   written_members = kept_by_passes (λ j. wrote x j && holds w p j) (range_with_len 0 64)

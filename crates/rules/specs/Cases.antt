@@ -1,6 +1,6 @@
 -- Cases that were worked out by hand from the rules, as the rows of one table.
 use Rattle.std.specs.Prelude.{◌≡◌, ℕ, ◌-◌, cond, List, [], ◌∷◌, map, length}
-use Rattle.std.specs.List.{AllByRecursion as All}
+use Rattle.std.specs.List.{AllByRecursion}
 use Rattle.calls.specs.declared.answer.Answer.{Answer}
 use Rattle.calls.specs.declared.answer.Answer.TheVariants.{Done, Begun, Found, Polled, Yes, Committed, Applied, Refused}
 use Rattle.calls.specs.declared.refusal.Refusal.TheVariants.{MakeOutOfBounds, NotYet, Busy}
@@ -44,7 +44,7 @@ Holds (stamp_is numbers base t stamp) = stamp_number 256 numbers base t ≡ stam
 Holds (run_is nodes placement lines clocks) =
     (make_answer nodes placement ≡ Done)
     × (answers_of four_places (made_world nodes placement) (calls_of lines) ≡ answers_in lines)
-    × All (λ c. (transaction (after_lines nodes placement lines) c.0).commit ≡ c.1) clocks
+    × AllByRecursion (λ c. (transaction (after_lines nodes placement lines) c.0).commit ≡ c.1) clocks
 
 -- Two nodes, and three keys: key 0 at node 0, key 1 at node 1, key 2 at both. Update 1 writes keys 0 and 1 and commits, and node 0 applies
 -- it. A search that has read key 0 there is put off at node 1 until that node has applied the update too. With the make this run has
@@ -161,4 +161,4 @@ cases =
 
 -- Every row of the table holds.
 abbrev pub CasesHold : Type 0
-CasesHold = All Holds cases
+CasesHold = AllByRecursion Holds cases

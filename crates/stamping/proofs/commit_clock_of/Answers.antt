@@ -1,8 +1,8 @@
 use Rattle.std.proofs.Common.{arith}
 use Rattle.rules.specs.World.{is_write_node}
 use Rattle.rules.specs.Deciding.{base_clock}
-use Rattle.deciding.proofs.Stamps.{stamped_more, stamped_all, commit_within}
-use Rattle.deciding.proofs.commit_clock_of.Goals as goal
+use Rattle.stamping.proofs.Stamps.{stamped_more, stamped_all, commit_within}
+use Rattle.stamping.proofs.commit_clock_of.Goals as goal
 
 pub loop-q-preserved : goal.loop-q-preserved
 loop-q-preserved c w parts =

@@ -1,8 +1,8 @@
 use Rattle.std.proofs.Common.{◌≡◌}
 use Rattle.rules.specs.World.{World, is_write_node}
 use Rattle.rules.specs.Deciding.{base_clock}
-use Rattle.deciding.proofs.Stamps.{StampedTo}
-use Rattle.deciding.proofs.commit_clock_of.Given as goal
+use Rattle.stamping.proofs.Stamps.{StampedTo}
+use Rattle.stamping.proofs.commit_clock_of.Given as goal
 
 -- The slots so far are those of the commit clock, and the others those of the base.
 abbrev pub invariant-loop-q : goal.invariant-loop-q

@@ -1,7 +1,7 @@
 use Rattle.std.proofs.Common.{sym, ◌∙◌, below_more}
 use Rattle.rules.specs.World.{is_write_node}
 use Rattle.rules.proofs.States.{some_from}
-use Rattle.deciding.proofs.has_write_node.Goals as goal
+use Rattle.stamping.proofs.has_write_node.Goals as goal
 
 pub returns-then-writes_at : goal.returns-then-writes_at
 returns-then-writes_at c w parts =

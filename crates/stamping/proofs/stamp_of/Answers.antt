@@ -1,6 +1,6 @@
 use Rattle.std.proofs.Common.{arith}
-use Rattle.deciding.proofs.Stamps.{stamp_told, stamp_there}
-use Rattle.deciding.proofs.stamp_of.Goals as goal
+use Rattle.stamping.proofs.Stamps.{stamp_told, stamp_there}
+use Rattle.stamping.proofs.stamp_of.Goals as goal
 
 pub returns : goal.returns
 returns c = record {

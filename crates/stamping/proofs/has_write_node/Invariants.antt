@@ -1,6 +1,6 @@
 use Rattle.std.proofs.Common.{◌≡◌, ℕ, ◌<◌, false}
 use Rattle.rules.specs.World.{World, is_write_node}
-use Rattle.deciding.proofs.has_write_node.Given as goal
+use Rattle.stamping.proofs.has_write_node.Given as goal
 
 -- None of the nodes so far is a write node.
 abbrev pub invariant-loop-p : goal.invariant-loop-p

@@ -1,6 +1,6 @@
 use Rattle.std.proofs.Common.{Some, None, arith}
-use Rattle.deciding.proofs.Stamps.{committed_some, committed_none, committed_there}
-use Rattle.deciding.proofs.committed.Goals as goal
+use Rattle.stamping.proofs.Stamps.{committed_some, committed_none, committed_there}
+use Rattle.stamping.proofs.committed.Goals as goal
 
 pub returns-in-Some : goal.returns-in-Some
 returns-in-Some c = record {
