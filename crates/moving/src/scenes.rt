@@ -7,7 +7,7 @@ use calls::sizes::TransactionNumber;
 use catalogue::catalogue::Catalogue;
 use catalogue::replies::{of_decide, of_done, of_offer, of_prepare, of_read};
 use store::VersionStore;
-use tickets::ticket::Ticket;
+use tickets::ticket::{Ticket, read, write};
 
 /// Files the document in folder A.
 pub(crate) fn file_document<S: VersionStore>(
@@ -17,7 +17,7 @@ pub(crate) fn file_document<S: VersionStore>(
     let Some(ticket) = begin_update(report, catalogue) else {
         return;
     };
-    let wrote = ticket.write(catalogue, FOLDER_A.key, 1);
+    let wrote = write(&ticket, catalogue, FOLDER_A.key, 1);
     report.step("write 1 to folder A", of_done(wrote));
     let (offered, polls) = ticket.offer(catalogue);
     report.step("offer the update", of_offer(polls));
@@ -36,13 +36,13 @@ pub(crate) fn move_document<S: VersionStore>(
     let Some(reader) = begin_reader(report, catalogue) else {
         return;
     };
-    let in_a = reader.read(catalogue, FOLDER_A.key, FOLDER_A.node);
+    let in_a = read(&reader, catalogue, FOLDER_A.key, FOLDER_A.node);
     report.step("the first Search reads folder A", of_read(in_a));
     if let Some(t) = commit_move(report, catalogue) {
         apply_at_first(report, catalogue, t);
         look_while_half_moved(report, catalogue, t);
     }
-    let in_b = reader.read(catalogue, FOLDER_B.key, FOLDER_B.node);
+    let in_b = read(&reader, catalogue, FOLDER_B.key, FOLDER_B.node);
     report.step("the first Search reads folder B", of_read(in_b));
     let finished = reader.finish(catalogue);
     report.step("finish the first Search", of_done(finished));
@@ -54,11 +54,11 @@ fn commit_move<S: VersionStore>(
     catalogue: &mut Catalogue<S>,
 ) -> Option<TransactionNumber> {
     let ticket = begin_update(report, catalogue)?;
-    let in_a = ticket.read(catalogue, FOLDER_A.key, FOLDER_A.node);
+    let in_a = read(&ticket, catalogue, FOLDER_A.key, FOLDER_A.node);
     report.step("the update reads folder A", of_read(in_a));
-    let left = ticket.write(catalogue, FOLDER_A.key, 0);
+    let left = write(&ticket, catalogue, FOLDER_A.key, 0);
     report.step("write 0 to folder A", of_done(left));
-    let entered = ticket.write(catalogue, FOLDER_B.key, 1);
+    let entered = write(&ticket, catalogue, FOLDER_B.key, 1);
     report.step("write 1 to folder B", of_done(entered));
     let (offered, polls) = ticket.offer(catalogue);
     report.step("offer the update", of_offer(polls));
@@ -78,12 +78,12 @@ fn look_while_half_moved<S: VersionStore>(
     let Some(reader) = begin_reader(report, catalogue) else {
         return;
     };
-    let in_a = reader.read(catalogue, FOLDER_A.key, FOLDER_A.node);
+    let in_a = read(&reader, catalogue, FOLDER_A.key, FOLDER_A.node);
     report.step("the second Search reads folder A", of_read(in_a));
-    let too_early = reader.read(catalogue, FOLDER_B.key, FOLDER_B.node);
+    let too_early = read(&reader, catalogue, FOLDER_B.key, FOLDER_B.node);
     report.step("the second Search reads folder B", of_read(too_early));
     apply_at_second(report, catalogue, t);
-    let in_b = reader.read(catalogue, FOLDER_B.key, FOLDER_B.node);
+    let in_b = read(&reader, catalogue, FOLDER_B.key, FOLDER_B.node);
     report.step("the second Search reads folder B", of_read(in_b));
     let finished = reader.finish(catalogue);
     report.step("finish the second Search", of_done(finished));
@@ -97,9 +97,9 @@ pub(crate) fn move_in_vain<S: VersionStore>(report: &mut Report<'_>, catalogue: 
     let Some(reader) = begin_reader(report, catalogue) else {
         return;
     };
-    let in_a = reader.read(catalogue, FOLDER_A.key, FOLDER_A.node);
+    let in_a = read(&reader, catalogue, FOLDER_A.key, FOLDER_A.node);
     report.step("the Search reads folder A", of_read(in_a));
-    let in_b = reader.read(catalogue, FOLDER_B.key, FOLDER_B.node);
+    let in_b = read(&reader, catalogue, FOLDER_B.key, FOLDER_B.node);
     report.step("the Search reads folder B", of_read(in_b));
     report.step("finish the Search", of_done(reader.finish(catalogue)));
 }
@@ -108,7 +108,7 @@ fn cancel_unoffered<S: VersionStore>(report: &mut Report<'_>, catalogue: &mut Ca
     let Some(ticket) = begin_update(report, catalogue) else {
         return;
     };
-    let left = ticket.write(catalogue, FOLDER_B.key, 0);
+    let left = write(&ticket, catalogue, FOLDER_B.key, 0);
     report.step("write 0 to folder B", of_done(left));
     let cancelled = ticket.cancel(catalogue);
     report.step("cancel the update", of_done(cancelled));
@@ -118,7 +118,7 @@ fn cancel_offered<S: VersionStore>(report: &mut Report<'_>, catalogue: &mut Cata
     let Some(ticket) = begin_update(report, catalogue) else {
         return;
     };
-    let left = ticket.write(catalogue, FOLDER_B.key, 0);
+    let left = write(&ticket, catalogue, FOLDER_B.key, 0);
     report.step("write 0 to folder B", of_done(left));
     let (offered, polls) = ticket.offer(catalogue);
     report.step("offer the update", of_offer(polls));
@@ -130,9 +130,9 @@ fn decide_too_early<S: VersionStore>(report: &mut Report<'_>, catalogue: &mut Ca
     let Some(ticket) = begin_update(report, catalogue) else {
         return;
     };
-    let entered = ticket.write(catalogue, FOLDER_A.key, 1);
+    let entered = write(&ticket, catalogue, FOLDER_A.key, 1);
     report.step("write 1 to folder A", of_done(entered));
-    let left = ticket.write(catalogue, FOLDER_B.key, 0);
+    let left = write(&ticket, catalogue, FOLDER_B.key, 0);
     report.step("write 0 to folder B", of_done(left));
     let (offered, polls) = ticket.offer(catalogue);
     report.step("offer the update", of_offer(polls));

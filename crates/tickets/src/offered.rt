@@ -17,14 +17,18 @@ use store::VersionStore;
 /// Stands for an offered update until it is decided or cancelled. It may neither read nor write.
 pub struct OfferedTicket {
     pub(crate) transaction: TransactionNumber,
+    handed_in: bool,
 }
 
-/// No program can meet what this asks: an offered ticket is handed in to `decide` or to `cancel`.
+/// An offered ticket can be let go once it is handed in, which `decide` and `cancel` do.
 impl Drop for OfferedTicket {
     fn drop(self)
-        requires handed_in { ⊥ }
+        requires handed_in { self.handed_in ≡ true }
     {
-        let OfferedTicket { transaction: _ } = self;
+        let OfferedTicket {
+            transaction: _,
+            handed_in: _,
+        } = self;
     }
 }
 
@@ -62,27 +66,40 @@ fn decide_by_number<S: VersionStore>(
 }
 
 impl OfferedTicket {
+    /// The ticket of an update that was just offered.
+    pub(crate) fn of(transaction: TransactionNumber) -> OfferedTicket
+        ensures { result.transaction ≡ transaction }
+    {
+        OfferedTicket {
+            transaction,
+            handed_in: false,
+        }
+    }
+
     /// Commits or aborts the update by the votes of its nodes. Where some are outstanding it is cancelled, and the answer is that it
     /// is aborted.
-    pub fn decide<S: VersionStore>(self, catalogue: &mut Catalogue<S>) -> Result<Decision, Refusal>
+    pub fn decide<S: VersionStore>(
+        mut self,
+        catalogue: &mut Catalogue<S>,
+    ) -> Result<Decision, Refusal>
         ensures step { (decided result, world_of catalogue.new.table (S.VersionStore.meaning catalogue.new.store)) ≡ decide_ticket_call (world_of catalogue.old.table (S.VersionStore.meaning catalogue.old.store)) self.transaction }
         ensures rule { S.VersionStore.free catalogue.new.store ≡ S.VersionStore.free catalogue.old.store }
     {
-        let OfferedTicket { transaction } = self;
-        let decision = decide_by_number(catalogue, transaction);
+        self.handed_in = true;
+        let decision = decide_by_number(catalogue, self.transaction);
         if !are_votes_outstanding(&decision) {
             return decision;
         }
-        let _ = catalogue.cancel(transaction);
+        let _ = catalogue.cancel(self.transaction);
         Ok(Decision::Aborted)
     }
 
     /// Aborts the update.
-    pub fn cancel<S: VersionStore>(self, catalogue: &mut Catalogue<S>) -> Result<(), Refusal>
+    pub fn cancel<S: VersionStore>(mut self, catalogue: &mut Catalogue<S>) -> Result<(), Refusal>
         ensures step { (done result, world_of catalogue.new.table (S.VersionStore.meaning catalogue.new.store)) ≡ cancel_call (world_of catalogue.old.table (S.VersionStore.meaning catalogue.old.store)) self.transaction }
         ensures rule { S.VersionStore.free catalogue.new.store ≡ S.VersionStore.free catalogue.old.store }
     {
-        let OfferedTicket { transaction } = self;
-        catalogue.cancel(transaction)
+        self.handed_in = true;
+        catalogue.cancel(self.transaction)
     }
 }

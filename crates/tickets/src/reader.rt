@@ -18,14 +18,18 @@ use store::VersionStore;
 /// Stands for a `Search` until it is finished. It may read.
 pub struct SearchTicket {
     transaction: TransactionNumber,
+    handed_in: bool,
 }
 
-/// No program can meet what this asks: a `SearchTicket` is handed in to `finish`.
+/// A `SearchTicket` can be let go once it is handed in, which `finish` does.
 impl Drop for SearchTicket {
     fn drop(self)
-        requires handed_in { ⊥ }
+        requires handed_in { self.handed_in ≡ true }
     {
-        let SearchTicket { transaction: _ } = self;
+        let SearchTicket {
+            transaction: _,
+            handed_in: _,
+        } = self;
     }
 }
 
@@ -50,15 +54,18 @@ impl SearchTicket {
         ensures rule { S.VersionStore.free catalogue.new.store ≡ S.VersionStore.free catalogue.old.store }
     {
         let transaction = catalogue.begin(Kind::Search)?;
-        Ok(SearchTicket { transaction })
+        Ok(SearchTicket {
+            transaction,
+            handed_in: false,
+        })
     }
 
     /// Ends the `Search`.
-    pub fn finish<S: VersionStore>(self, catalogue: &mut Catalogue<S>) -> Result<(), Refusal>
+    pub fn finish<S: VersionStore>(mut self, catalogue: &mut Catalogue<S>) -> Result<(), Refusal>
         ensures step { (done result, world_of catalogue.new.table (S.VersionStore.meaning catalogue.new.store)) ≡ finish_call (world_of catalogue.old.table (S.VersionStore.meaning catalogue.old.store)) self.transaction }
         ensures rule { S.VersionStore.free catalogue.new.store ≡ S.VersionStore.free catalogue.old.store }
     {
-        let SearchTicket { transaction } = self;
-        catalogue.finish(transaction)
+        self.handed_in = true;
+        catalogue.finish(self.transaction)
     }
 }

@@ -13,7 +13,7 @@ use store::VersionStore;
 
 /// A ticket stands for one transaction, from its begin until the ticket is handed in.
 ///
-/// Every ticket can be asked to read and to write; a program that asks one that may not is not proved.
+/// `read` and `write` take any ticket; a program that hands them one that may not is not proved.
 pub trait Ticket: Sealed {
     /// The transaction that a ticket stands for.
     ghost transaction: { Self → ℕ };
@@ -27,32 +27,32 @@ pub trait Ticket: Sealed {
     /// The number of the transaction, for the calls that name it.
     fn number(&self) -> TransactionNumber
         ensures { result ≡ transaction self.now };
+}
 
-    /// Reads a key at a node: its value there, and the transaction that wrote it.
-    fn read<S: VersionStore>(
-        &self,
-        catalogue: &mut Catalogue<S>,
-        k: KeyNumber,
-        p: NodeNumber,
-    ) -> Result<(StoredValue, TransactionNumber), Refusal>
-        requires open { reads ≡ true }
-        ensures step { (found result, world_of catalogue.new.table (S.VersionStore.meaning catalogue.new.store)) ≡ read_call (world_of catalogue.old.table (S.VersionStore.meaning catalogue.old.store)) (transaction self.now) k p }
-        ensures rule { S.VersionStore.free catalogue.new.store ≡ S.VersionStore.free catalogue.old.store }
-    {
-        catalogue.read(self.number(), k, p)
-    }
+/// Reads a key at a node: its value there, and the transaction that wrote it.
+pub fn read<T: Ticket, S: VersionStore>(
+    ticket: &T,
+    catalogue: &mut Catalogue<S>,
+    k: KeyNumber,
+    p: NodeNumber,
+) -> Result<(StoredValue, TransactionNumber), Refusal>
+    requires { T.reads ≡ true }
+    ensures step { (found result, world_of catalogue.new.table (S.VersionStore.meaning catalogue.new.store)) ≡ read_call (world_of catalogue.old.table (S.VersionStore.meaning catalogue.old.store)) (T.transaction ticket.now) k p }
+    ensures rule { S.VersionStore.free catalogue.new.store ≡ S.VersionStore.free catalogue.old.store }
+{
+    catalogue.read(ticket.number(), k, p)
+}
 
-    /// Gives the update a value for a key.
-    fn write<S: VersionStore>(
-        &self,
-        catalogue: &mut Catalogue<S>,
-        k: KeyNumber,
-        value: StoredValue,
-    ) -> Result<(), Refusal>
-        requires update { writes ≡ true }
-        ensures step { (done result, world_of catalogue.new.table (S.VersionStore.meaning catalogue.new.store)) ≡ write_call (world_of catalogue.old.table (S.VersionStore.meaning catalogue.old.store)) (transaction self.now) k value }
-        ensures rule { S.VersionStore.free catalogue.new.store ≡ S.VersionStore.free catalogue.old.store }
-    {
-        catalogue.write(self.number(), k, value)
-    }
+/// Gives the update a value for a key.
+pub fn write<T: Ticket, S: VersionStore>(
+    ticket: &T,
+    catalogue: &mut Catalogue<S>,
+    k: KeyNumber,
+    value: StoredValue,
+) -> Result<(), Refusal>
+    requires { T.writes ≡ true }
+    ensures step { (done result, world_of catalogue.new.table (S.VersionStore.meaning catalogue.new.store)) ≡ write_call (world_of catalogue.old.table (S.VersionStore.meaning catalogue.old.store)) (T.transaction ticket.now) k value }
+    ensures rule { S.VersionStore.free catalogue.new.store ≡ S.VersionStore.free catalogue.old.store }
+{
+    catalogue.write(ticket.number(), k, value)
 }

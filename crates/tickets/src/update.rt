@@ -19,14 +19,18 @@ use store::VersionStore;
 /// Stands for an update until it is offered or cancelled. It may read and write.
 pub struct UpdateTicket {
     transaction: TransactionNumber,
+    handed_in: bool,
 }
 
-/// No program can meet what this asks: an update's ticket is handed in to `offer` or to `cancel`.
+/// An update's ticket can be let go once it is handed in, which `offer` and `cancel` do.
 impl Drop for UpdateTicket {
     fn drop(self)
-        requires handed_in { ⊥ }
+        requires handed_in { self.handed_in ≡ true }
     {
-        let UpdateTicket { transaction: _ } = self;
+        let UpdateTicket {
+            transaction: _,
+            handed_in: _,
+        } = self;
     }
 }
 
@@ -51,30 +55,33 @@ impl UpdateTicket {
         ensures rule { S.VersionStore.free catalogue.new.store ≡ S.VersionStore.free catalogue.old.store }
     {
         let transaction = catalogue.begin(Kind::Update)?;
-        Ok(UpdateTicket { transaction })
+        Ok(UpdateTicket {
+            transaction,
+            handed_in: false,
+        })
     }
 
     /// Offers the update to the nodes that hold a key that it noted or wrote, and answers how many they are. Refused or not, the ticket
     /// becomes an offered one for the same update.
     pub fn offer<S: VersionStore>(
-        self,
+        mut self,
         catalogue: &mut Catalogue<S>,
     ) -> (OfferedTicket, Result<u8, Refusal>)
         ensures step { (polled result.1, world_of catalogue.new.table (S.VersionStore.meaning catalogue.new.store)) ≡ offer_call (world_of catalogue.old.table (S.VersionStore.meaning catalogue.old.store)) self.transaction }
         ensures same { result.0.transaction ≡ self.transaction }
         ensures rule { S.VersionStore.free catalogue.new.store ≡ S.VersionStore.free catalogue.old.store }
     {
-        let UpdateTicket { transaction } = self;
-        let answer = catalogue.offer(transaction);
-        (OfferedTicket { transaction }, answer)
+        self.handed_in = true;
+        let answer = catalogue.offer(self.transaction);
+        (OfferedTicket::of(self.transaction), answer)
     }
 
     /// Aborts the update.
-    pub fn cancel<S: VersionStore>(self, catalogue: &mut Catalogue<S>) -> Result<(), Refusal>
+    pub fn cancel<S: VersionStore>(mut self, catalogue: &mut Catalogue<S>) -> Result<(), Refusal>
         ensures step { (done result, world_of catalogue.new.table (S.VersionStore.meaning catalogue.new.store)) ≡ cancel_call (world_of catalogue.old.table (S.VersionStore.meaning catalogue.old.store)) self.transaction }
         ensures rule { S.VersionStore.free catalogue.new.store ≡ S.VersionStore.free catalogue.old.store }
     {
-        let UpdateTicket { transaction } = self;
-        catalogue.cancel(transaction)
+        self.handed_in = true;
+        catalogue.cancel(self.transaction)
     }
 }

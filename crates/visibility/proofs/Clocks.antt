@@ -13,7 +13,7 @@ use Rattle.records.proofs.Bounded.{join_within}
 abbrev blank : Transaction
 blank = new_transaction Search
 
--- Clock-within the list the default does not matter, and past it the commit clock is that of the default.
+-- Within the list the default does not matter, and past it the commit clock is that of the default.
 pub commit_inside : (xs : List Transaction) (i : ℕ) (d : Transaction) → i < length xs → (get_or xs i d).commit ≡ (get_or xs i blank).commit
 commit_inside xs i d inside = ap (λ (u : Transaction). u.commit) (get_or_default xs i d blank inside)
 

@@ -1,5 +1,5 @@
 // What can be done with one chain.
-ghost use Rattle.std.specs.Prelude.{◌≡◌, ◌+◌, ltb, is_ok, if◌then◌else◌, nat_lt};
+ghost use Rattle.std.specs.Prelude.{◌≡◌, ◌+◌, is_ok, if◌then◌else◌, nat_lt};
 ghost use Rattle.store.specs.Model.{nth_of, first_chain, one_aside, one_back, one_put};
 ghost use Rattle.shelf.specs.Slots.{chain_of, places_left};
 
@@ -45,7 +45,7 @@ impl Slots {
 
     pub fn set_aside(&mut self) -> Result<(), StoreRefusal>
         ensures answer { is_ok result ≡ nat_lt 0 (places_left 4 (chain_of self.old)) }
-        ensures after { chain_of self.new ≡ (if ltb 0 (places_left 4 (chain_of self.old)) then one_aside (chain_of self.old) else chain_of self.old) }
+        ensures after { chain_of self.new ≡ (if nat_lt 0 (places_left 4 (chain_of self.old)) then one_aside (chain_of self.old) else chain_of self.old) }
         ensures room { places_left 4 (chain_of self.new) + (if is_ok result then 1 else 0) ≡ places_left 4 (chain_of self.old) }
     {
         if self.places_left() == 0 {
@@ -57,7 +57,7 @@ impl Slots {
 
     pub fn give_back(&mut self) -> Result<(), StoreRefusal>
         ensures answer { is_ok result ≡ nat_lt 0 (chain_of self.old).aside }
-        ensures after { chain_of self.new ≡ (if ltb 0 (chain_of self.old).aside then one_back (chain_of self.old) else chain_of self.old) }
+        ensures after { chain_of self.new ≡ (if nat_lt 0 (chain_of self.old).aside then one_back (chain_of self.old) else chain_of self.old) }
         ensures room { places_left 4 (chain_of self.new) ≡ places_left 4 (chain_of self.old) + (if is_ok result then 1 else 0) }
     {
         if self.aside == 0 {
@@ -69,7 +69,7 @@ impl Slots {
 
     pub fn put(&mut self, version: Version) -> Result<(), StoreRefusal>
         ensures answer { is_ok result ≡ nat_lt 0 (chain_of self.old).aside }
-        ensures after { chain_of self.new ≡ (if ltb 0 (chain_of self.old).aside then one_put version (chain_of self.old) else chain_of self.old) }
+        ensures after { chain_of self.new ≡ (if nat_lt 0 (chain_of self.old).aside then one_put version (chain_of self.old) else chain_of self.old) }
         ensures room { places_left 4 (chain_of self.new) ≡ places_left 4 (chain_of self.old) }
     {
         if self.aside == 0 {
