@@ -5,5 +5,5 @@ pub mod Votes
 pub mod Known
 pub mod Outcomes
 pub mod Stamps
-pub mod Worlds
 pub mod Performs
+pub mod Replacing

@@ -1,5 +1,6 @@
 -- No number is near the highest that 32 bits hold.
-use Rattle.std.proofs.Common.{◌≡◌, ℕ, zero, suc, ◌+◌, ◌*◌, ◌^◌, ◌<◌, ◌≤◌, Bool, true, false, cond, ltb, List, [], ◌∷◌, length, Some, None, ◌∙◌, arith}
+use Rattle.std.proofs.Common.{◌≡◌, ℕ, zero, suc, ◌+◌, ◌*◌, ◌^◌, ◌<◌, ◌≤◌, Bool, true, false, cond, ltb, List, [], ◌∷◌, length, Some, None, Option, refl, ◌∙◌, arith}
+use Rattle.std.specs.Option.{IsSome}
 use Rattle.std.proofs.lemmas.Bool.{cond-true, lt-ltb}
 use Rattle.clock.specs.Clocks.{marked}
 use Rattle.clock.specs.Numbers.{next_number, if_fits}
@@ -39,8 +40,10 @@ next_near counter t small =
 fits : (n : ℕ) → n < 2 ^ 32 → if_fits n ≡ Some n
 fits n small = cond-true (ltb n (2 ^ 32)) (Some n) None (lt-ltb n (2 ^ 32) small)
 
-pub fits_is : (r n : ℕ) → n < 2 ^ 32 → Some r ≡ if_fits n → r ≡ n
-fits_is r n small told = let e : Some r ≡ Some n = told ∙ fits n small in cc
+pub fits_some : (r : Option ℕ) (n : ℕ) → n < 2 ^ 32 → r ≡ if_fits n → IsSome r
+fits_some None n small told = let e : None ≡ Some n = told ∙ fits n small in let z : ◌≡◌ {A = ℕ} 0 1 = cc in absurd (omega arith)
+fits_some (Some x) n small told = refl
 
-pub fits_never_not : (n : ℕ) → n < 2 ^ 32 → None ≡ if_fits n → ⊥
-fits_never_not n small told = let e : None ≡ Some n = told ∙ fits n small in let z : ◌≡◌ {A = ℕ} 0 1 = cc in omega arith
+-- The bound on the numbers of tables with room for what a vote or a commit adds.
+pub room_above : (xs : List Transaction) → length xs ≤ 255 → most xs + 256 < 2 ^ 32
+room_above xs few = let h = most_few xs few in omega arith

@@ -37,7 +37,10 @@ abbrev pub voted : Result Vote Refusal → Answer
 voted (Ok vote) = vote_answer vote
 voted (Err refusal) = Refused refusal
 
+abbrev pub decision_answer : Decision → Answer
+decision_answer (commits stamp) = Committed stamp
+decision_answer aborts = Aborted
+
 abbrev pub decided : Result Decision Refusal → Answer
-decided (Ok (commits stamp)) = Committed stamp
-decided (Ok aborts) = Aborted
+decided (Ok decision) = decision_answer decision
 decided (Err refusal) = Refused refusal

@@ -2,7 +2,7 @@
 
 ghost use Rattle.std.specs.Prelude.{◌≡◌, true, MatchResult};
 ghost use Rattle.rules.specs.Steps.{can_make, made_world};
-ghost use Rattle.catalogue.specs.Tables.{world_of};
+ghost use Rattle.catalogue.specs.Tables.{world};
 ghost use Rattle.catalogue.specs.Making.{WhyNotMade};
 ghost use Rattle.catalogue.specs.declared.make.MakeError.TheVariants.{OutOfMemory};
 
@@ -46,7 +46,7 @@ impl<S: VersionStore> Catalogue<S> {
         keys: u8,
         placement: &[u8],
     ) -> Result<Catalogue<S>, MakeError>
-        ensures { MatchResult result (λ c. (can_make nodes keys placement.now ≡ true) × (world_of c.table (S.VersionStore.meaning c.store) ≡ made_world nodes placement.now)) (λ e. WhyNotMade nodes keys placement.now e) }
+        ensures { MatchResult result (λ c. (can_make nodes keys placement.now ≡ true) × (world S.meaning c ≡ made_world nodes placement.now)) (λ e. WhyNotMade nodes keys placement.now e) }
     {
         if !can_make(nodes, keys, placement) {
             return Err(MakeError::Refused {

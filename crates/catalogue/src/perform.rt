@@ -5,7 +5,7 @@ ghost use Rattle.calls.specs.Requests.{request};
 ghost use Rattle.rules.specs.Steps.{can_make, made_world, step};
 ghost use Rattle.rules.specs.Transcript.{with_answers};
 ghost use Rattle.rules.specs.Promises.{Promises};
-ghost use Rattle.catalogue.specs.Tables.{world_of};
+ghost use Rattle.catalogue.specs.Tables.{world};
 ghost use Rattle.catalogue.specs.Making.{WhyNotMade};
 ghost use Rattle.catalogue.specs.Replies.{done};
 ghost use Rattle.catalogue.specs.declared.make.MakeError.TheVariants.{OutOfMemory};
@@ -13,7 +13,9 @@ ghost use Rattle.catalogue.specs.Runs.{Performed, Ran};
 
 use crate::catalogue::Catalogue;
 use crate::make::MakeError;
-use crate::replies::{of_apply, of_begin, of_decide, of_done, of_offer, of_prepare, of_read};
+use crate::replies::{
+    of_apply, of_begin, of_decide, of_done, of_offer, of_prepare, of_read, refused,
+};
 use calls::answer::Answer;
 use calls::call::Call;
 use calls::refusal::Refusal;
@@ -28,17 +30,11 @@ pub struct CompletedRun<S: VersionStore> {
     pub catalogue: Catalogue<S>,
 }
 
-fn refused(refusal: Refusal) -> Answer
-    ensures { result ≡ done (Err refusal) }
-{
-    Answer::Refused { refusal }
-}
-
 impl<S: VersionStore> Catalogue<S> {
     /// Carries out any call.
     pub fn perform(&mut self, call: &Call) -> Answer
-        ensures step { (result, world_of self.new.table (S.VersionStore.meaning self.new.store)) ≡ step (S.VersionStore.free self.old.store) (world_of self.old.table (S.VersionStore.meaning self.old.store)) (request call.now) }
-        ensures rule { S.VersionStore.free self.new.store ≡ S.VersionStore.free self.old.store }
+        ensures step { (result, world S.meaning self.new) ≡ step (S.free self.old.store) (world S.meaning self.old) (request call.now) }
+        ensures rule { S.free self.new.store ≡ S.free self.old.store }
     {
         match *call {
             Call::Make { .. } => refused(Refusal::MakeOutOfOrder),
@@ -69,10 +65,10 @@ impl<S: VersionStore> Catalogue<S> {
 
     /// Carries out a list of calls.
     fn perform_all(&mut self, heap: Global, calls: &[Call]) -> Result<Vec<Answer>, MakeError>
-        ensures after { MatchResult result (λ answers. Performed (S.VersionStore.free self.old.store) (world_of self.old.table (S.VersionStore.meaning self.old.store)) (map request calls.now) answers.items (world_of self.new.table (S.VersionStore.meaning self.new.store))) (λ e. e ≡ OutOfMemory) }
-        ensures ran { MatchResult result (λ answers. (nodes keys : ℕ) (placement : List ℕ) → can_make nodes keys placement ≡ true → world_of self.old.table (S.VersionStore.meaning self.old.store) ≡ made_world nodes placement → Ran (S.VersionStore.free self.new.store) nodes keys placement (map request calls.now) answers.items (world_of self.new.table (S.VersionStore.meaning self.new.store))) (λ e. e ≡ OutOfMemory) }
-        ensures told { MatchResult result (λ answers. (nodes keys : ℕ) (placement : List ℕ) → can_make nodes keys placement ≡ true → world_of self.old.table (S.VersionStore.meaning self.old.store) ≡ made_world nodes placement → Promises (S.VersionStore.free self.new.store) (with_answers (map request calls.now) answers.items []) (world_of self.new.table (S.VersionStore.meaning self.new.store))) (λ e. e ≡ OutOfMemory) }
-        ensures rule { S.VersionStore.free self.new.store ≡ S.VersionStore.free self.old.store }
+        ensures after { MatchResult result (λ answers. Performed (S.free self.old.store) (world S.meaning self.old) (map request calls.now) answers.items (world S.meaning self.new)) (λ e. e ≡ OutOfMemory) }
+        ensures ran { MatchResult result (λ answers. (nodes keys : ℕ) (placement : List ℕ) → can_make nodes keys placement ≡ true → world S.meaning self.old ≡ made_world nodes placement → Ran (S.free self.new.store) nodes keys placement (map request calls.now) answers.items (world S.meaning self.new)) (λ e. e ≡ OutOfMemory) }
+        ensures told { MatchResult result (λ answers. (nodes keys : ℕ) (placement : List ℕ) → can_make nodes keys placement ≡ true → world S.meaning self.old ≡ made_world nodes placement → Promises (S.free self.new.store) (with_answers (map request calls.now) answers.items []) (world S.meaning self.new)) (λ e. e ≡ OutOfMemory) }
+        ensures rule { S.free self.new.store ≡ S.free self.old.store }
     {
         let mut answers = Vec::new(heap);
         for call in calls {
@@ -94,8 +90,8 @@ pub fn run<S: VersionStore>(
     placement: &[u8],
     calls: &[Call],
 ) -> Result<CompletedRun<S>, MakeError>
-    ensures ran { MatchResult result (λ o. Ran (S.VersionStore.free o.catalogue.store) nodes keys placement.now (map request calls.now) o.answers.items (world_of o.catalogue.table (S.VersionStore.meaning o.catalogue.store))) (λ e. WhyNotMade nodes keys placement.now e) }
-    ensures told { IfOk result (λ o. Promises (S.VersionStore.free o.catalogue.store) (with_answers (map request calls.now) o.answers.items []) (world_of o.catalogue.table (S.VersionStore.meaning o.catalogue.store))) }
+    ensures ran { MatchResult result (λ o. Ran (S.free o.catalogue.store) nodes keys placement.now (map request calls.now) o.answers.items (world S.meaning o.catalogue)) (λ e. WhyNotMade nodes keys placement.now e) }
+    ensures told { IfOk result (λ o. Promises (S.free o.catalogue.store) (with_answers (map request calls.now) o.answers.items []) (world S.meaning o.catalogue)) }
 {
     let mut catalogue = Catalogue::make(heap, nodes, keys, placement)?;
     let answers = catalogue.perform_all(heap, calls)?;

@@ -4,7 +4,8 @@ ghost use Rattle.std.specs.Prelude.{◌≡◌, ◌<◌, true};
 ghost use Rattle.store.specs.Model.{fresh};
 ghost use Rattle.rules.specs.World.{is_begun, node, transaction};
 ghost use Rattle.rules.specs.Applying.{applied_world, apply_call};
-ghost use Rattle.catalogue.specs.Tables.{world_of};
+ghost use Rattle.catalogue.specs.Tables.{world, world_of};
+ghost use Rattle.catalogue.specs.Recorded.{NodeRecorded, Recorded};
 ghost use Rattle.catalogue.specs.Replies.{applied};
 
 use super::Catalogue;
@@ -18,8 +19,8 @@ use voting::places::put_written;
 impl<S: VersionStore> Catalogue<S> {
     /// Applies at a node the update that waits there with the least number, and gives the update.
     pub fn apply(&mut self, p: NodeNumber) -> Result<TransactionNumber, Refusal>
-        ensures call { (applied result, world_of self.new.table (S.VersionStore.meaning self.new.store)) ≡ apply_call (world_of self.old.table (S.VersionStore.meaning self.old.store)) p }
-        ensures rule { S.VersionStore.free self.new.store ≡ S.VersionStore.free self.old.store }
+        ensures call { (applied result, world S.meaning self.new) ≡ apply_call (world S.meaning self.old) p }
+        ensures rule { S.free self.new.store ≡ S.free self.old.store }
     {
         let n = self.table.node(p)?;
         let Some(t) = self.table.least_waiting(p) else {
@@ -35,12 +36,10 @@ impl<S: VersionStore> Catalogue<S> {
 
     /// Puts what an update wrote at a node, and releases the update there.
     fn install(&mut self, t: TransactionNumber, p: NodeNumber, x: Transaction, n: Node)
-        requires small { p < 8 }
-        requires begun { is_begun (world_of self.old.table fresh) t ≡ true }
-        requires record { x ≡ transaction (world_of self.old.table fresh) t }
-        requires node { n ≡ node (world_of self.old.table fresh) p }
-        ensures world { world_of self.new.table (S.VersionStore.meaning self.new.store) ≡ applied_world (world_of self.old.table (S.VersionStore.meaning self.old.store)) t p x }
-        ensures rule { S.VersionStore.free self.new.store ≡ S.VersionStore.free self.old.store }
+        requires record { Recorded self.old.table t x }
+        requires node { NodeRecorded self.old.table p n }
+        ensures world { world S.meaning self.new ≡ applied_world (world S.meaning self.old) t p x }
+        ensures rule { S.free self.new.store ≡ S.free self.old.store }
     {
         put_written(self.table.placement(), &mut self.store, p, t, &x);
         self.table.update(t, applied(x, p));

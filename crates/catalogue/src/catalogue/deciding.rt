@@ -6,7 +6,8 @@ ghost use Rattle.rules.specs.World.{is_begun, transaction, with_transaction};
 ghost use Rattle.rules.specs.Changes.{is_committed as has_committed};
 ghost use Rattle.rules.specs.Deciding.{stamp_of, stamped, decide_call};
 ghost use Rattle.records.specs.Bounds.{is_committed};
-ghost use Rattle.catalogue.specs.Tables.{world_of};
+ghost use Rattle.catalogue.specs.Tables.{world, world_of};
+ghost use Rattle.catalogue.specs.Recorded.{Recorded};
 ghost use Rattle.catalogue.specs.Replies.{decided};
 
 use super::Catalogue;
@@ -21,8 +22,8 @@ use store::VersionStore;
 impl<S: VersionStore> Catalogue<S> {
     /// Aborts an offered update that a node voted against, and commits one that all polled nodes voted for.
     pub fn decide(&mut self, t: TransactionNumber) -> Result<Decision, Refusal>
-        ensures call { (decided result, world_of self.new.table (S.VersionStore.meaning self.new.store)) ≡ decide_call (world_of self.old.table (S.VersionStore.meaning self.old.store)) t }
-        ensures rule { S.VersionStore.free self.new.store ≡ S.VersionStore.free self.old.store }
+        ensures call { (decided result, world S.meaning self.new) ≡ decide_call (world S.meaning self.old) t }
+        ensures rule { S.free self.new.store ≡ S.free self.old.store }
     {
         let x = self.table.asked(t, Event::Decide)?;
         if x.refused {
@@ -38,12 +39,11 @@ impl<S: VersionStore> Catalogue<S> {
 
     /// Commits an update that is not decided yet, and gives its stamp.
     fn commit(&mut self, t: TransactionNumber, x: Transaction) -> Stamp
-        requires begun { is_begun (world_of self.old.table fresh) t ≡ true }
-        requires same { x ≡ transaction (world_of self.old.table fresh) t }
+        requires record { Recorded self.old.table t x }
         requires undecided { is_committed x.state ≡ false }
-        ensures value { result ≡ stamp_of (world_of self.old.table (S.VersionStore.meaning self.old.store)) t x }
-        ensures world { world_of self.new.table (S.VersionStore.meaning self.new.store) ≡ with_transaction (world_of self.old.table (S.VersionStore.meaning self.old.store)) t (has_committed (stamp_of (world_of self.old.table (S.VersionStore.meaning self.old.store)) t x) (stamped (world_of self.old.table (S.VersionStore.meaning self.old.store)) x (stamp_of (world_of self.old.table (S.VersionStore.meaning self.old.store)) t x)) x) }
-        ensures rule { S.VersionStore.free self.new.store ≡ S.VersionStore.free self.old.store }
+        ensures value { result ≡ stamp_of (world S.meaning self.old) t x }
+        ensures world { world S.meaning self.new ≡ with_transaction (world S.meaning self.old) t (has_committed (stamp_of (world S.meaning self.old) t x) (stamped (world S.meaning self.old) x (stamp_of (world S.meaning self.old) t x)) x) }
+        ensures rule { S.free self.new.store ≡ S.free self.old.store }
     {
         let y = self.table.committed(t, x);
         self.table.raise(t, y);

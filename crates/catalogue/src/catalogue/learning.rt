@@ -4,7 +4,8 @@ ghost use Rattle.std.specs.Prelude.{◌≡◌, ◌<◌, true};
 ghost use Rattle.store.specs.Model.{fresh};
 ghost use Rattle.rules.specs.World.{is_begun, is_write_node, node, transaction};
 ghost use Rattle.rules.specs.Applying.{learn_commit, learn_abort, learn_call};
-ghost use Rattle.catalogue.specs.Tables.{world_of};
+ghost use Rattle.catalogue.specs.Tables.{world, world_of};
+ghost use Rattle.catalogue.specs.Recorded.{NodeRecorded, Recorded};
 ghost use Rattle.catalogue.specs.Replies.{done};
 
 use super::Catalogue;
@@ -18,8 +19,8 @@ use voting::places::give_back;
 impl<S: VersionStore> Catalogue<S> {
     /// Lets a node that an update polled learn its decision.
     pub fn learn(&mut self, t: TransactionNumber, p: NodeNumber) -> Result<(), Refusal>
-        ensures call { (done result, world_of self.new.table (S.VersionStore.meaning self.new.store)) ≡ learn_call (world_of self.old.table (S.VersionStore.meaning self.old.store)) t p }
-        ensures rule { S.VersionStore.free self.new.store ≡ S.VersionStore.free self.old.store }
+        ensures call { (done result, world S.meaning self.new) ≡ learn_call (world S.meaning self.old) t p }
+        ensures rule { S.free self.new.store ≡ S.free self.old.store }
     {
         let (x, n) = self.table.learnable(t, p)?;
         match x.state {
@@ -32,12 +33,10 @@ impl<S: VersionStore> Catalogue<S> {
 
     /// Lets a node learn a commit. A write node takes the stamp for the update's number; another node releases the update.
     fn learn_commit(&mut self, t: TransactionNumber, p: NodeNumber, x: Transaction, n: Node)
-        requires small { p < 8 }
-        requires begun { is_begun (world_of self.old.table fresh) t ≡ true }
-        requires record { x ≡ transaction (world_of self.old.table fresh) t }
-        requires node { n ≡ node (world_of self.old.table fresh) p }
-        ensures world { world_of self.new.table (S.VersionStore.meaning self.new.store) ≡ learn_commit (world_of self.old.table (S.VersionStore.meaning self.old.store)) t p x (is_write_node (world_of self.old.table (S.VersionStore.meaning self.old.store)) x p) }
-        ensures rule { S.VersionStore.free self.new.store ≡ S.VersionStore.free self.old.store }
+        requires record { Recorded self.old.table t x }
+        requires node { NodeRecorded self.old.table p n }
+        ensures world { world S.meaning self.new ≡ learn_commit (world S.meaning self.old) t p x (is_write_node (world S.meaning self.old) x p) }
+        ensures rule { S.free self.new.store ≡ S.free self.old.store }
     {
         if self.table.writes_at(&x, p) {
             self.table.update(t, numbered(x, p));
@@ -51,10 +50,9 @@ impl<S: VersionStore> Catalogue<S> {
     /// Lets a node learn an abort: it gives back the places that it set aside, and releases the update.
     fn learn_abort(&mut self, t: TransactionNumber, p: NodeNumber, x: Transaction)
         requires small { p < 8 }
-        requires begun { is_begun (world_of self.old.table fresh) t ≡ true }
-        requires record { x ≡ transaction (world_of self.old.table fresh) t }
-        ensures world { world_of self.new.table (S.VersionStore.meaning self.new.store) ≡ learn_abort (world_of self.old.table (S.VersionStore.meaning self.old.store)) t p x }
-        ensures rule { S.VersionStore.free self.new.store ≡ S.VersionStore.free self.old.store }
+        requires record { Recorded self.old.table t x }
+        ensures world { world S.meaning self.new ≡ learn_abort (world S.meaning self.old) t p x }
+        ensures rule { S.free self.new.store ≡ S.free self.old.store }
     {
         give_back(self.table.placement(), &mut self.store, p, &x);
         self.table.update(t, released(x, p));

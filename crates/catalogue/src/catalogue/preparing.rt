@@ -5,7 +5,8 @@ ghost use Rattle.clock.specs.Clocks.{marked};
 ghost use Rattle.store.specs.Model.{fresh};
 ghost use Rattle.rules.specs.World.{is_begun, node, transaction};
 ghost use Rattle.rules.specs.Voting.{overtaken_key, vote, prepare_call};
-ghost use Rattle.catalogue.specs.Tables.{world_of};
+ghost use Rattle.catalogue.specs.Tables.{world, world_of};
+ghost use Rattle.catalogue.specs.Recorded.{NodeRecorded, Recorded};
 ghost use Rattle.catalogue.specs.Replies.{vote_answer, voted};
 
 use super::Catalogue;
@@ -22,13 +23,11 @@ use voting::places::set_places;
 impl<S: VersionStore> Catalogue<S> {
     /// The vote of a node that may vote. It is a no where a key is overtaken, or where there is no place for a key.
     fn vote(&mut self, t: TransactionNumber, x: Transaction, p: NodeNumber, n: Node) -> Vote
-        requires begun { is_begun (world_of self.old.table fresh) t ≡ true }
-        requires record { x ≡ transaction (world_of self.old.table fresh) t }
-        requires node { p < 8 }
+        requires record { Recorded self.old.table t x }
+        requires node { NodeRecorded self.old.table p n }
         requires unvoted { marked x.voted p ≡ false }
-        requires voter { n ≡ node (world_of self.old.table fresh) p }
-        ensures outcome { (vote_answer result, world_of self.new.table (S.VersionStore.meaning self.new.store)) ≡ vote (S.VersionStore.free self.old.store) (world_of self.old.table (S.VersionStore.meaning self.old.store)) t p x (overtaken_key (world_of self.old.table (S.VersionStore.meaning self.old.store)) x p) }
-        ensures rule { S.VersionStore.free self.new.store ≡ S.VersionStore.free self.old.store }
+        ensures outcome { (vote_answer result, world S.meaning self.new) ≡ vote (S.free self.old.store) (world S.meaning self.old) t p x (overtaken_key (world S.meaning self.old) x p) }
+        ensures rule { S.free self.new.store ≡ S.free self.old.store }
     {
         let placement = self.table.placement();
         if let Some(key) = overtaken(placement, &self.store, &x, p) {
@@ -49,8 +48,8 @@ impl<S: VersionStore> Catalogue<S> {
 
     /// Asks a node to vote on an offered update.
     pub fn prepare(&mut self, t: TransactionNumber, p: NodeNumber) -> Result<Vote, Refusal>
-        ensures outcome { (voted result, world_of self.new.table (S.VersionStore.meaning self.new.store)) ≡ prepare_call (S.VersionStore.free self.old.store) (world_of self.old.table (S.VersionStore.meaning self.old.store)) t p }
-        ensures rule { S.VersionStore.free self.new.store ≡ S.VersionStore.free self.old.store }
+        ensures outcome { (voted result, world S.meaning self.new) ≡ prepare_call (S.free self.old.store) (world S.meaning self.old) t p }
+        ensures rule { S.free self.new.store ≡ S.free self.old.store }
     {
         let x = self.table.transaction(t)?;
         let n = self.table.node(p)?;

@@ -5,7 +5,8 @@ ghost use Rattle.store.specs.Model.{fresh};
 ghost use Rattle.rules.specs.World.{is_begun, transaction};
 ghost use Rattle.rules.specs.Reading.{read_by, read_call};
 ghost use Rattle.records.specs.Bounds.{most, TransactionWithin};
-ghost use Rattle.catalogue.specs.Tables.{world_of};
+ghost use Rattle.catalogue.specs.Tables.{world, world_of};
+ghost use Rattle.catalogue.specs.Recorded.{Recorded};
 ghost use Rattle.catalogue.specs.Replies.{found};
 
 use super::Catalogue;
@@ -24,8 +25,8 @@ impl<S: VersionStore> Catalogue<S> {
         k: KeyNumber,
         p: NodeNumber,
     ) -> Result<(StoredValue, TransactionNumber), Refusal>
-        ensures value { (found result, world_of self.new.table (S.VersionStore.meaning self.new.store)) ≡ read_call (world_of self.old.table (S.VersionStore.meaning self.old.store)) t k p }
-        ensures rule { S.VersionStore.free self.new.store ≡ S.VersionStore.free self.old.store }
+        ensures value { (found result, world S.meaning self.new) ≡ read_call (world S.meaning self.old) t k p }
+        ensures rule { S.free self.new.store ≡ S.free self.old.store }
     {
         let (x, n) = self.table.readable(t, k, p)?;
         if let Some(value) = x.written[usize::from(k)] {
@@ -46,11 +47,10 @@ impl<S: VersionStore> Catalogue<S> {
         x: Transaction,
     ) -> Result<(StoredValue, TransactionNumber), Refusal>
         requires range { (p < 8) × (k < 64) }
-        requires begun { is_begun (world_of self.old.table fresh) t ≡ true }
-        requires record { x ≡ transaction (world_of self.old.table fresh) t }
+        requires record { Recorded self.old.table t x }
         requires within { TransactionWithin (most self.old.table.transactions.items) x }
-        ensures value { (found result, world_of self.new.table (S.VersionStore.meaning self.new.store)) ≡ read_by (world_of self.old.table (S.VersionStore.meaning self.old.store)) t k p x x.kind }
-        ensures rule { S.VersionStore.free self.new.store ≡ S.VersionStore.free self.old.store }
+        ensures value { (found result, world S.meaning self.new) ≡ read_by (world S.meaning self.old) t k p x x.kind }
+        ensures rule { S.free self.new.store ≡ S.free self.old.store }
     {
         let clock = self.table.clock_after(&x, p);
         let seen = visible(self.table.transactions(), &self.store, &x, clock, k, p);

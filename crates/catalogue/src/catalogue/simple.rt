@@ -2,7 +2,7 @@
 
 ghost use Rattle.std.specs.Prelude.{◌≡◌};
 ghost use Rattle.rules.specs.Deciding.{begin_call, cancel_call, finish_call};
-ghost use Rattle.catalogue.specs.Tables.{world_of};
+ghost use Rattle.catalogue.specs.Tables.{world};
 ghost use Rattle.catalogue.specs.Replies.{begun, done};
 
 use super::Catalogue;
@@ -15,8 +15,8 @@ use store::VersionStore;
 impl<S: VersionStore> Catalogue<S> {
     /// Opens a transaction of a kind, and gives its number.
     pub fn begin(&mut self, kind: Kind) -> Result<TransactionNumber, Refusal>
-        ensures step { (begun result, world_of self.new.table (S.VersionStore.meaning self.new.store)) ≡ begin_call (world_of self.old.table (S.VersionStore.meaning self.old.store)) kind }
-        ensures rule { S.VersionStore.free self.new.store ≡ S.VersionStore.free self.old.store }
+        ensures step { (begun result, world S.meaning self.new) ≡ begin_call (world S.meaning self.old) kind }
+        ensures rule { S.free self.new.store ≡ S.free self.old.store }
     {
         let before = self.table.begun();
         if before >= 255 {
@@ -28,8 +28,8 @@ impl<S: VersionStore> Catalogue<S> {
 
     /// Aborts an open or offered update.
     pub fn cancel(&mut self, t: TransactionNumber) -> Result<(), Refusal>
-        ensures step { (done result, world_of self.new.table (S.VersionStore.meaning self.new.store)) ≡ cancel_call (world_of self.old.table (S.VersionStore.meaning self.old.store)) t }
-        ensures rule { S.VersionStore.free self.new.store ≡ S.VersionStore.free self.old.store }
+        ensures step { (done result, world S.meaning self.new) ≡ cancel_call (world S.meaning self.old) t }
+        ensures rule { S.free self.new.store ≡ S.free self.old.store }
     {
         let x = self.table.asked(t, Event::Cancel)?;
         self.table.update(t, ended(x, State::Aborted));
@@ -38,8 +38,8 @@ impl<S: VersionStore> Catalogue<S> {
 
     /// Ends a `Search`.
     pub fn finish(&mut self, t: TransactionNumber) -> Result<(), Refusal>
-        ensures step { (done result, world_of self.new.table (S.VersionStore.meaning self.new.store)) ≡ finish_call (world_of self.old.table (S.VersionStore.meaning self.old.store)) t }
-        ensures rule { S.VersionStore.free self.new.store ≡ S.VersionStore.free self.old.store }
+        ensures step { (done result, world S.meaning self.new) ≡ finish_call (world S.meaning self.old) t }
+        ensures rule { S.free self.new.store ≡ S.free self.old.store }
     {
         let x = self.table.asked(t, Event::Finish)?;
         self.table.update(t, ended(x, State::Finished));

@@ -7,7 +7,8 @@ ghost use Rattle.rules.specs.Changes.{is_now_offered};
 ghost use Rattle.rules.specs.Reading.{write_call};
 ghost use Rattle.rules.specs.Deciding.{polled_byte, nodes_of, offer_call};
 ghost use Rattle.records.specs.Bounds.{is_committed};
-ghost use Rattle.catalogue.specs.Tables.{world_of};
+ghost use Rattle.catalogue.specs.Tables.{world, world_of};
+ghost use Rattle.catalogue.specs.Recorded.{Recorded};
 ghost use Rattle.catalogue.specs.Replies.{done, polled};
 
 use super::Catalogue;
@@ -26,8 +27,8 @@ impl<S: VersionStore> Catalogue<S> {
         k: KeyNumber,
         value: StoredValue,
     ) -> Result<(), Refusal>
-        ensures value { (done result, world_of self.new.table (S.VersionStore.meaning self.new.store)) ≡ write_call (world_of self.old.table (S.VersionStore.meaning self.old.store)) t k value }
-        ensures rule { S.VersionStore.free self.new.store ≡ S.VersionStore.free self.old.store }
+        ensures value { (done result, world S.meaning self.new) ≡ write_call (world S.meaning self.old) t k value }
+        ensures rule { S.free self.new.store ≡ S.free self.old.store }
     {
         let x = self.table.writable(t, k)?;
         let written = with_write(x, k, value)?;
@@ -37,8 +38,8 @@ impl<S: VersionStore> Catalogue<S> {
 
     /// Offers an update to the nodes that hold a key that it noted or wrote, and answers how many they are.
     pub fn offer(&mut self, t: TransactionNumber) -> Result<u8, Refusal>
-        ensures value { (polled result, world_of self.new.table (S.VersionStore.meaning self.new.store)) ≡ offer_call (world_of self.old.table (S.VersionStore.meaning self.old.store)) t }
-        ensures rule { S.VersionStore.free self.new.store ≡ S.VersionStore.free self.old.store }
+        ensures value { (polled result, world S.meaning self.new) ≡ offer_call (world S.meaning self.old) t }
+        ensures rule { S.free self.new.store ≡ S.free self.old.store }
     {
         let x = self.table.asked(t, Event::Offer)?;
         Ok(self.poll(t, x))
@@ -46,12 +47,11 @@ impl<S: VersionStore> Catalogue<S> {
 
     /// Offers an open update to the holders of the keys that it noted or wrote, and gives how many they are.
     fn poll(&mut self, t: TransactionNumber, x: Transaction) -> u8
-        requires begun { is_begun (world_of self.old.table fresh) t ≡ true }
-        requires record { x ≡ transaction (world_of self.old.table fresh) t }
+        requires record { Recorded self.old.table t x }
         requires undecided { is_committed x.state ≡ false }
-        ensures count { result ≡ length (nodes_of (polled_byte (world_of self.old.table (S.VersionStore.meaning self.old.store)) x)) }
-        ensures world { world_of self.new.table (S.VersionStore.meaning self.new.store) ≡ with_transaction (world_of self.old.table (S.VersionStore.meaning self.old.store)) t (is_now_offered (polled_byte (world_of self.old.table (S.VersionStore.meaning self.old.store)) x) x) }
-        ensures rule { S.VersionStore.free self.new.store ≡ S.VersionStore.free self.old.store }
+        ensures count { result ≡ length (nodes_of (polled_byte (world S.meaning self.old) x)) }
+        ensures world { world S.meaning self.new ≡ with_transaction (world S.meaning self.old) t (is_now_offered (polled_byte (world S.meaning self.old) x) x) }
+        ensures rule { S.free self.new.store ≡ S.free self.old.store }
     {
         let nodes = self.table.polled(&x);
         self.table.update(t, offered(x, nodes));

@@ -11,6 +11,8 @@ ghost use Rattle.rules.specs.Applying.{learn_by, learn_call};
 ghost use Rattle.rules.specs.Steps.{can_make, made_world};
 ghost use Rattle.records.specs.Bounds.{is_committed, for_undecided, raised_by, most, TransactionWithin, NodeWithin, Keeps, Raises};
 ghost use Rattle.catalogue.specs.Tables.{world_of};
+ghost use Rattle.catalogue.specs.Recorded.{NodeRecorded, Recorded};
+ghost use Rattle.catalogue.specs.Replacing.{NodeReplaced, TransactionReplaced};
 
 use super::Table;
 use calls::refusal::Refusal;
@@ -51,10 +53,13 @@ impl Table {
         ensures value { result ≡ (if is_begun (world_of self.now fresh) t then Ok (transaction (world_of self.now fresh) t) else Err NoSuchTransaction) }
         ensures within { IfOk result (λ x. TransactionWithin (most self.now.transactions.items) x) }
     {
-        if t == 0 || usize::from(t) > self.transactions.len() {
-            return Err(Refusal::NoSuchTransaction);
-        }
-        Ok(self.transactions[usize::from(t) - 1])
+        let i = usize::from(t)
+            .checked_sub(1)
+            .ok_or(Refusal::NoSuchTransaction)?;
+        self.transactions
+            .get(i)
+            .copied()
+            .ok_or(Refusal::NoSuchTransaction)
     }
 
     /// The record of a transaction that is in the state that an event needs.
@@ -63,10 +68,8 @@ impl Table {
         ensures undecided { IfOk result (λ x. for_undecided event ≡ true → is_committed x.state ≡ false) }
     {
         let x = self.transaction(t)?;
-        match allow(&x, event) {
-            Ok(()) => Ok(x),
-            Err(refusal) => Err(refusal),
-        }
+        allow(&x, event)?;
+        Ok(x)
     }
 
     /// The records of an open transaction and of a node that holds a key, for a read of the key there: the read goes on with them, or is refused.
@@ -77,7 +80,7 @@ impl Table {
         p: NodeNumber,
     ) -> Result<(Transaction, Node), Refusal>
         ensures call { MatchResult result (λ o. (m : Meaning) → read_call (world_of self.now m) t k p ≡ read_open (world_of self.now m) t k p o.0 (slice_index_or o.0.written k None)) (λ e. (m : Meaning) → read_call (world_of self.now m) t k p ≡ refuse (world_of self.now m) e) }
-        ensures known { IfOk result (λ o. (is_begun (world_of self.now fresh) t ≡ true) × (o.0 ≡ transaction (world_of self.now fresh) t) × (o.1 ≡ node (world_of self.now fresh) p) × (p < 8) × (k < 64) × TransactionWithin (most self.now.transactions.items) o.0) }
+        ensures known { IfOk result (λ o. Recorded self.now t o.0 × NodeRecorded self.now p o.1 × (k < 64) × TransactionWithin (most self.now.transactions.items) o.0) }
     {
         let x = self.transaction(t)?;
         let n = self.node(p)?;
@@ -87,10 +90,8 @@ impl Table {
         if !self.holds(p, k) {
             return Err(Refusal::KeyNotHeld);
         }
-        match allow(&x, Event::Read) {
-            Ok(()) => Ok((x, n)),
-            Err(refusal) => Err(refusal),
-        }
+        allow(&x, Event::Read)?;
+        Ok((x, n))
     }
 
     /// The record of an open update that may write a key: the write goes on with it, or is refused.
@@ -100,16 +101,14 @@ impl Table {
         k: KeyNumber,
     ) -> Result<Transaction, Refusal>
         ensures call { MatchResult result (λ x. (m : Meaning) (value : ℕ) → write_call (world_of self.now m) t k value ≡ check (wrote x k || nat_lt (how_many x.written) 8) (world_of self.now m) TooManyKeysWritten (Done, with_transaction (world_of self.now m) t (has_written k value x))) (λ e. (m : Meaning) (value : ℕ) → write_call (world_of self.now m) t k value ≡ refuse (world_of self.now m) e) }
-        ensures known { IfOk result (λ x. (is_begun (world_of self.now fresh) t ≡ true) × (x ≡ transaction (world_of self.now fresh) t)) }
+        ensures known { IfOk result (λ x. Recorded self.now t x) }
     {
         let x = self.transaction(t)?;
         if !self.has_key(k) {
             return Err(Refusal::NoSuchKey);
         }
-        match allow(&x, Event::Write) {
-            Ok(()) => Ok(x),
-            Err(refusal) => Err(refusal),
-        }
+        allow(&x, Event::Write)?;
+        Ok(x)
     }
 
     /// The records of a decided update and of a node that it polled and that has yet to learn of it: the node learns, or the call is refused.
@@ -119,7 +118,7 @@ impl Table {
         p: NodeNumber,
     ) -> Result<(Transaction, Node), Refusal>
         ensures call { MatchResult result (λ o. (m : Meaning) → learn_call (world_of self.now m) t p ≡ learn_by (world_of self.now m) t p o.0 o.0.state) (λ e. (m : Meaning) → learn_call (world_of self.now m) t p ≡ refuse (world_of self.now m) e) }
-        ensures known { IfOk result (λ o. (is_begun (world_of self.now fresh) t ≡ true) × (o.0 ≡ transaction (world_of self.now fresh) t) × (o.1 ≡ node (world_of self.now fresh) p) × (p < 8)) }
+        ensures known { IfOk result (λ o. Recorded self.now t o.0 × NodeRecorded self.now p o.1) }
     {
         let x = self.transaction(t)?;
         let n = self.node(p)?;
@@ -155,10 +154,10 @@ impl Table {
         ensures value { result ≡ (if is_node (world_of self.now fresh) p then Ok (node (world_of self.now fresh) p) else Err NoSuchNode) }
         ensures within { IfOk result (λ n. NodeWithin (most self.now.transactions.items) n × (p < 8)) }
     {
-        if usize::from(p) >= self.nodes.len() {
-            return Err(Refusal::NoSuchNode);
-        }
-        Ok(self.nodes[usize::from(p)])
+        self.nodes
+            .get(usize::from(p))
+            .copied()
+            .ok_or(Refusal::NoSuchNode)
     }
 
     /// Whether there is such a key.
@@ -180,9 +179,7 @@ impl Table {
     pub(crate) fn update(&mut self, t: TransactionNumber, x: Transaction)
         requires begun { is_begun (world_of self.old fresh) t ≡ true }
         requires kept { Keeps (transaction (world_of self.old fresh) t) x }
-        ensures transactions { self.new.transactions.items ≡ slice_set self.old.transactions.items (t - 1) x }
-        ensures nodes { self.new.nodes.items ≡ self.old.nodes.items }
-        ensures placement { self.new.placement.items ≡ self.old.placement.items }
+        ensures replaced { TransactionReplaced self.old self.new t x }
         ensures bound { most self.new.transactions.items ≡ most self.old.transactions.items }
     {
         self.set_transaction(t, x);
@@ -193,9 +190,7 @@ impl Table {
         requires begun { is_begun (world_of self.old fresh) t ≡ true }
         requires same { raised_by x ≡ raised_by (transaction (world_of self.old fresh) t) }
         requires within { TransactionWithin (most self.old.transactions.items) x }
-        ensures transactions { self.new.transactions.items ≡ slice_set self.old.transactions.items (t - 1) x }
-        ensures nodes { self.new.nodes.items ≡ self.old.nodes.items }
-        ensures placement { self.new.placement.items ≡ self.old.placement.items }
+        ensures replaced { TransactionReplaced self.old self.new t x }
         ensures bound { most self.new.transactions.items ≡ most self.old.transactions.items }
     {
         self.set_transaction(t, x);
@@ -205,9 +200,7 @@ impl Table {
     pub(crate) fn raise(&mut self, t: TransactionNumber, x: Transaction)
         requires begun { is_begun (world_of self.old fresh) t ≡ true }
         requires raised { Raises (most self.old.transactions.items) (transaction (world_of self.old fresh) t) x }
-        ensures transactions { self.new.transactions.items ≡ slice_set self.old.transactions.items (t - 1) x }
-        ensures nodes { self.new.nodes.items ≡ self.old.nodes.items }
-        ensures placement { self.new.placement.items ≡ self.old.placement.items }
+        ensures replaced { TransactionReplaced self.old self.new t x }
         ensures bound { most self.new.transactions.items ≡ most self.old.transactions.items + 256 }
     {
         self.set_transaction(t, x);
@@ -218,22 +211,15 @@ impl Table {
         requires begun { is_begun (world_of self.old fresh) t ≡ true }
         requires grows { raised_by (transaction (world_of self.old fresh) t) ≤ raised_by x }
         requires within { TransactionWithin (most (slice_set self.old.transactions.items (t - 1) x)) x }
-        ensures transactions { self.new.transactions.items ≡ slice_set self.old.transactions.items (t - 1) x }
-        ensures nodes { self.new.nodes.items ≡ self.old.nodes.items }
-        ensures placement { self.new.placement.items ≡ self.old.placement.items }
+        ensures { TransactionReplaced self.old self.new t x }
     {
-        if t == 0 || usize::from(t) > self.transactions.len() {
-            return;
-        }
         self.transactions[usize::from(t) - 1] = x;
     }
 
     /// Replaces the record of a node.
     pub(crate) fn set_node(&mut self, p: NodeNumber, n: Node)
         requires { NodeWithin (most self.old.transactions.items) n }
-        ensures nodes { self.new.nodes.items ≡ slice_set self.old.nodes.items p n }
-        ensures transactions { self.new.transactions.items ≡ self.old.transactions.items }
-        ensures placement { self.new.placement.items ≡ self.old.placement.items }
+        ensures { NodeReplaced self.old self.new p n }
     {
         if usize::from(p) < self.nodes.len() {
             self.nodes[usize::from(p)] = n;

@@ -15,10 +15,6 @@ impl Table {
         ensures value { result ≡ next_number 256 counter t }
         ensures bound { result ≤ most self.now.transactions.items + 256 }
     {
-        match next(counter, t) {
-            Some(number) => number,
-            // Never: every number of the tables is far below the highest stamp.
-            None => 0,
-        }
+        next(counter, t).unwrap()
     }
 }

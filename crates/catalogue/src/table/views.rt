@@ -83,10 +83,6 @@ impl Table {
         ensures value { (m : Meaning) → result ≡ has_committed (stamp_of (world_of self.now m) t x) (stamped (world_of self.now m) x (stamp_of (world_of self.now m) t x)) x }
         ensures raised { Raises (most self.now.transactions.items) x result }
     {
-        match committed(&self.placement, t, x) {
-            Some(y) => y,
-            // Never: every number of the tables is far below the highest stamp.
-            None => x,
-        }
+        committed(&self.placement, t, x).unwrap()
     }
 }

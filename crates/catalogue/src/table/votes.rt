@@ -1,6 +1,6 @@
 //! The votes of nodes, as the tables keep them.
 
-ghost use Rattle.std.specs.Prelude.{◌≡◌, ◌-◌, ◌<◌, true, false, slice_set};
+ghost use Rattle.std.specs.Prelude.{◌≡◌, ◌<◌, true, false};
 ghost use Rattle.calls.specs.declared.answer.Answer.TheVariants.{Yes};
 ghost use Rattle.clock.specs.Clocks.{marked};
 ghost use Rattle.store.specs.Model.{fresh};
@@ -8,6 +8,8 @@ ghost use Rattle.rules.specs.World.{is_begun, node, transaction, is_write_node};
 ghost use Rattle.rules.specs.Changes.{has_no};
 ghost use Rattle.rules.specs.Voting.{yes};
 ghost use Rattle.catalogue.specs.Tables.{world_of};
+ghost use Rattle.catalogue.specs.Recorded.{NodeRecorded, Recorded};
+ghost use Rattle.catalogue.specs.Replacing.{TransactionReplaced};
 
 use super::Table;
 use calls::sizes::{NodeNumber, Stamp, TransactionNumber};
@@ -17,13 +19,10 @@ use rules::records::{Node, Transaction};
 impl Table {
     /// Keeps a node's no.
     pub(crate) fn vote_no(&mut self, t: TransactionNumber, x: Transaction, p: NodeNumber)
-        requires begun { is_begun (world_of self.old fresh) t ≡ true }
-        requires record { x ≡ transaction (world_of self.old fresh) t }
+        requires record { Recorded self.old t x }
         requires node { p < 8 }
         requires unvoted { marked x.voted p ≡ false }
-        ensures transactions { self.new.transactions.items ≡ slice_set self.old.transactions.items (t - 1) (has_no p x) }
-        ensures nodes { self.new.nodes.items ≡ self.old.nodes.items }
-        ensures placement { self.new.placement.items ≡ self.old.placement.items }
+        ensures { TransactionReplaced self.old self.new t (has_no p x) }
     {
         self.raise(t, voted_no(x, p));
     }
@@ -36,11 +35,9 @@ impl Table {
         p: NodeNumber,
         n: Node,
     ) -> Stamp
-        requires begun { is_begun (world_of self.old fresh) t ≡ true }
-        requires record { x ≡ transaction (world_of self.old fresh) t }
-        requires node { p < 8 }
+        requires record { Recorded self.old t x }
+        requires node { NodeRecorded self.old p n }
         requires unvoted { marked x.voted p ≡ false }
-        requires voter { n ≡ node (world_of self.old fresh) p }
         ensures { (Yes result, world_of self.new fresh) ≡ yes (world_of self.old fresh) t p x fresh (is_write_node (world_of self.old fresh) x p) }
     {
         if !self.writes_at(&x, p) {

@@ -1,33 +1,14 @@
-use Rattle.std.proofs.Common.{ℕ, ◌-◌, ◌<◌, length, sym, ap, ◌∙◌, subst, arith}
-use Rattle.std.proofs.lemmas.Bool.Decides.{nat_tests}
+use Rattle.std.proofs.Common.{ℕ, sym, ap, ◌∙◌, subst}
 use Rattle.records.specs.Bounds.{most, TransactionWithin}
-use Rattle.catalogue.proofs.Bounded.{raised_most}
+use Rattle.catalogue.proofs.Replacing.{raised_bound}
 use Rattle.catalogue.proofs.table.Table.raise.Goals as goal
 
-pub set_transaction-requires : goal.set_transaction-requires
-set_transaction-requires c =
-    let table = c.args.self.now in
-    let xs = table.transactions.items in
-    let begun = c.requires.begun in
-    let inside : c.args.t - 1 < length xs = grind (arith, nat_tests) in
-    let once = c.requires.raised.once in
-    let bound = raised_most xs (c.args.t - 1) c.args.x inside once in
-    record {
-      begun = begun;
-      grows = omega arith;
-      within = subst (λ (b : ℕ). TransactionWithin b c.args.x) (sym bound) c.requires.raised.within;
-    }
+pub set_transaction-requires-clause-within : goal.set_transaction-requires-clause-within
+set_transaction-requires-clause-within c =
+    let bound = raised_bound c.args.self.now c.args.t c.args.x c.requires.begun c.requires.raised.once in
+    subst (λ (b : ℕ). TransactionWithin b c.args.x) (sym bound) c.requires.raised.within
 
-pub returns : goal.returns
-returns c =
-    let table = c.args.self.now in
-    let xs = table.transactions.items in
-    let begun = c.requires.begun in
-    let inside : c.args.t - 1 < length xs = grind (arith, nat_tests) in
-    let done = c.set_transaction.ensures in
-    record {
-      transactions = done.transactions;
-      nodes = done.nodes;
-      placement = done.placement;
-      bound = ap most done.transactions ∙ raised_most xs (c.args.t - 1) c.args.x inside c.requires.raised.once;
-    }
+pub returns-clause-bound : goal.returns-clause-bound
+returns-clause-bound c =
+    ap most c.set_transaction.ensures.transactions
+    ∙ raised_bound c.args.self.now c.args.t c.args.x c.requires.begun c.requires.raised.once

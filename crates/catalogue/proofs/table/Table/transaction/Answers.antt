@@ -1,26 +1,17 @@
-use Rattle.std.proofs.Common.{◌≡◌, ◌-◌, true, get_or, Ok, sym, ap, ◌∙◌, subst, arith}
-use Rattle.std.proofs.lemmas.List.{get_or_read_under}
-use Rattle.std.proofs.lemmas.Bool.{cond-true}
-use Rattle.std.proofs.lemmas.Bool.Decides.{nat_tests}
-use Rattle.rules.specs.declared.records.Kind.TheVariants.{Search}
-use Rattle.rules.specs.declared.records.Transaction.{Transaction}
-use Rattle.rules.specs.World.{is_begun, new_transaction}
+use Rattle.std.proofs.Common.{◌-◌, rules}
+use Rattle.calls.specs.declared.refusal.Refusal.TheVariants.{NoSuchTransaction}
 use Rattle.store.specs.Model.{fresh}
+use Rattle.rules.specs.declared.records.Transaction.{Transaction}
+use Rattle.rules.specs.World.{is_begun, transaction}
 use Rattle.records.specs.Bounds.{most, TransactionWithin}
 use Rattle.catalogue.specs.Tables.{world_of}
+use Rattle.catalogue.proofs.Answering.{if_granted}
 use Rattle.catalogue.proofs.table.Table.transaction.Goals as goal
 
-pub returns : goal.returns
-returns c =
+pub returns-clause-within : goal.returns-clause-within
+returns-clause-within c =
     let table = c.args.self.now in
-    let xs = table.transactions.items in
-    let long = table.transactions.ok.0 in
-    let x = c.index.result.now in
-    let is : x ≡ get_or xs (c.args.t - 1) (new_transaction Search) =
-    get_or_read_under xs (c.from-2.result - 1) table.transactions.len x (new_transaction Search) c.index.ensures (omega arith) long
-    ∙ ap (λ i. get_or xs (i - 1) (new_transaction Search)) (omega arith) in
-    let begun : is_begun (world_of table fresh) c.args.t ≡ true = grind (arith, nat_tests) in
-    record {
-      value = ap Ok is ∙ sym (cond-true (is_begun (world_of table fresh) c.args.t) (Ok (get_or xs (c.args.t - 1) (new_transaction Search))) _ begun);
-      within = subst (λ (y : Transaction). TransactionWithin (most xs) y) (sym is) (table.collected_within (c.args.t - 1), table.decided_within (c.args.t - 1));
-    }
+    let w = world_of table fresh in
+    let t = c.args.t in
+    if_granted (λ (x : Transaction). TransactionWithin (most table.transactions.items) x) (is_begun w t) (transaction w t) NoSuchTransaction c.ok_or-2.result (search rules)
+    (λ begun. (table.collected_within (t - 1), table.decided_within (t - 1)))

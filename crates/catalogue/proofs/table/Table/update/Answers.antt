@@ -1,33 +1,15 @@
-use Rattle.std.proofs.Common.{ℕ, ◌-◌, ◌<◌, length, sym, ap, ◌∙◌, subst, arith}
-use Rattle.std.proofs.lemmas.Bool.Decides.{nat_tests}
+use Rattle.std.proofs.Common.{ℕ, ◌-◌, sym, ap, ◌∙◌, subst}
 use Rattle.records.specs.Bounds.{most, TransactionWithin}
-use Rattle.catalogue.proofs.Bounded.{kept_most}
+use Rattle.catalogue.proofs.Replacing.{kept_bound}
 use Rattle.catalogue.proofs.table.Table.update.Goals as goal
 
-pub set_transaction-requires : goal.set_transaction-requires
-set_transaction-requires c =
+pub set_transaction-requires-clause-within : goal.set_transaction-requires-clause-within
+set_transaction-requires-clause-within c =
     let table = c.args.self.now in
-    let xs = table.transactions.items in
-    let begun = c.requires.begun in
-    let inside : c.args.t - 1 < length xs = grind (arith, nat_tests) in
-    let same = c.requires.kept.same in
-    let bound = kept_most xs (c.args.t - 1) c.args.x inside same in
-    record {
-      begun = begun;
-      grows = omega arith;
-      within = subst (λ (b : ℕ). TransactionWithin b c.args.x) (sym bound) (c.requires.kept.within (most xs) (table.collected_within (c.args.t - 1), table.decided_within (c.args.t - 1)));
-    }
+    let bound = kept_bound table c.args.t c.args.x c.requires.begun c.requires.kept.same in
+    subst (λ (b : ℕ). TransactionWithin b c.args.x) (sym bound) (c.requires.kept.within (most table.transactions.items) (table.collected_within (c.args.t - 1), table.decided_within (c.args.t - 1)))
 
-pub returns : goal.returns
-returns c =
-    let table = c.args.self.now in
-    let xs = table.transactions.items in
-    let begun = c.requires.begun in
-    let inside : c.args.t - 1 < length xs = grind (arith, nat_tests) in
-    let done = c.set_transaction.ensures in
-    record {
-      transactions = done.transactions;
-      nodes = done.nodes;
-      placement = done.placement;
-      bound = ap most done.transactions ∙ kept_most xs (c.args.t - 1) c.args.x inside c.requires.kept.same;
-    }
+pub returns-clause-bound : goal.returns-clause-bound
+returns-clause-bound c =
+    ap most c.set_transaction.ensures.transactions
+    ∙ kept_bound c.args.self.now c.args.t c.args.x c.requires.begun c.requires.kept.same
