@@ -1,10 +1,14 @@
 -- The first number that leaves a transaction is the least.
-use Rattle.std.proofs.Common.{◌≡◌, ℕ, zero, suc, ◌+◌, ◌*◌, ◌/◌, ◌%◌, ◌<◌, ◌≤◌, max, eqb, List, [], ◌∷◌, ◌++◌, length, get_or, take, sym, ap, ◌∙◌, inl, inr, ⊎_elim, mod-lt, mod-eq_of_lt, add-mul, one-mul, div-add-mod', arith}
+use Rattle.std.proofs.Common.{◌≡◌, ℕ, zero, suc, ◌+◌, ◌*◌, ◌/◌, ◌%◌, ◌^◌, ◌<◌, ◌≤◌, max, eqb, List, [], ◌∷◌, length, get_or, fold, Ok, Err, Result, sym, ap, ◌∙◌, inl, inr, ⊎_elim, map-id, mod-lt, mod-eq_of_lt, add-mul, one-mul, div-add-mod', arith}
 use lib.Arith.{digits_mod}
-use Rattle.std.proofs.lemmas.List.{take_more}
+use Rattle.std.specs.List.{reduce}
+use Rattle.std.specs.Option.{unwrap_or}
+use Rattle.std.specs.Result.{OkIff, result_ok}
+use Rattle.std.specs.Ordering.{max_by_ordering, nat_cmp}
+use Rattle.std.proofs.lemmas.List.Folds.{max_of_map}
 use Rattle.std.proofs.lemmas.Bool.{cases_eq, cases_lt, cond-true, cond-false}
 use Rattle.std.proofs.lemmas.Bool.Decides.{nat_tests}
-use Rattle.clock.specs.Numbers.{first_leaving, next_number, highest, stamp_number, Least, Next, Stamp, NumbersAreLeast}
+use Rattle.clock.specs.Numbers.{first_leaving, next_number, highest, stamp_number, if_fits, Least, Next, Stamp, NumbersAreLeast}
 
 -- Where some number among those looked at leaves t, the first that does is found: it is not below n, and leaves t, and none between does.
 pub found : (modulus t more n m : ℕ) → n ≤ m → m < n + more → m % modulus ≡ t → (n ≤ first_leaving modulus t more n) × (first_leaving modulus t more n % modulus ≡ t) × (first_leaving modulus t more n ≤ m)
@@ -91,13 +95,18 @@ by_formula t n r small low high leaves =
     let below = l.least r (low, leaves) in
     omega arith
 
--- One number more.
-highest_push : (xs : List ℕ) (x : ℕ) → highest (xs ++ x ∷ []) ≡ max (highest xs) x
-highest_push [] x = omega arith
-highest_push (y ∷ ys) x = let rest = highest_push ys x in omega arith
+-- The largest of some numbers, and 0 of none, is the highest.
+fold_highest : (xs : List ℕ) (a : ℕ) → fold (λ b x. max b x) a xs ≡ max a (highest xs)
+fold_highest [] a = omega arith
+fold_highest (x ∷ xs) a = let rest = fold_highest xs (max a x) in omega arith
 
-pub highest_more : (xs : List ℕ) (i top : ℕ) → i < length xs → top ≡ highest (take i xs) → max top (get_or xs i 0) ≡ highest (take (i + 1) xs)
-highest_more xs i top l is =
-    let pushed = highest_push (take i xs) (get_or xs i 0) in
-    let more = ap highest (take_more xs i 0 l) in
+pub max_highest : (xs : List ℕ) → unwrap_or (reduce (λ p z. max_by_ordering (nat_cmp p z) p z) xs) 0 ≡ highest xs
+max_highest xs =
+    let folded = fold_highest xs 0 in
+    let most : unwrap_or (reduce (λ p z. max_by_ordering (nat_cmp p z) p z) xs) 0 ≡ fold (λ a x. max a x) 0 xs = simp map-id at (max_of_map (λ x. x) xs) in
     omega arith
+
+-- A number that is taken into 32 bits where it fits.
+pub fits_taken : {E : Type 0} (r : Result ℕ E) (n : ℕ) → OkIff r (n < 2 ^ 32) n → result_ok r ≡ if_fits n
+fits_taken (Ok x) n told = let few = told.0 in let is = told.1 in grind (arith, nat_tests)
+fits_taken (Err e) n told = grind (arith, nat_tests)

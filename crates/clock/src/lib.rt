@@ -6,6 +6,7 @@ ghost use Rattle.clock.specs.Clocks.{join, passes, Passes};
 ghost use Rattle.clock.specs.Numbers.{next_number, first_leaving, highest, stamp_number, if_fits, NumbersAreLeast};
 
 use calls::sizes::{Stamp, TransactionNumber};
+use std::array;
 
 /// A number for each node.
 pub type Clock = [Stamp; 8];
@@ -20,11 +21,7 @@ pub const MODULUS: u64 = 256;
 pub fn join(a: Clock, b: Clock) -> Clock
     ensures { result ≡ join a b }
 {
-    let mut out = a;
-    for q in 0..8 {
-        out[q] = a[q].max(b[q]);
-    }
-    out
+    array::from_fn(|q| a[q].max(b[q]))
 }
 
 /// Whether a commit clock is no higher than a clock in the slots of the nodes that are marked as read at.
@@ -32,12 +29,10 @@ pub fn passes(read: NodeMarks, commit: Clock, clock: Clock) -> bool
     ensures means { Decides result (Passes read commit clock) }
     ensures value { result ≡ passes read commit clock }
 {
-    for q in 0..8 {
-        if read[q] && commit[q] > clock[q] {
-            return false;
-        }
-    }
-    true
+    read.iter()
+        .zip(&commit)
+        .zip(&clock)
+        .all(|((read, commit), clock)| !read || commit <= clock)
 }
 
 /// The least number above `counter` that leaves `transaction`, if it fits.
@@ -59,11 +54,7 @@ pub fn stamp(numbers: Clock, base: Clock, transaction: TransactionNumber) -> Opt
 fn largest(clock: Clock) -> Stamp
     ensures { result ≡ highest clock }
 {
-    let mut top: Stamp = 0;
-    for x in &clock {
-        top = top.max(*x);
-    }
-    top
+    clock.iter().copied().max().unwrap_or(0)
 }
 
 /// The least number from `low` on that leaves the transaction, if it fits.
@@ -71,22 +62,11 @@ fn first_leaving(low: u64, transaction: TransactionNumber) -> Option<Stamp>
     requires { low < 2 ^ 33 }
     ensures { result ≡ if_fits (first_leaving 256 transaction 256 low) }
 {
-    let left = low % MODULUS;
-    let wanted = u64::from(transaction);
-    let number = if left <= wanted {
-        low - left + wanted
-    } else {
-        low - left + MODULUS + wanted
-    };
-    match Stamp::try_from(number) {
-        Ok(stamp) => Some(stamp),
-        Err(_) => None,
-    }
+    let gap = (MODULUS + u64::from(transaction) - low % MODULUS) % MODULUS;
+    Stamp::try_from(low + gap).ok()
 }
 
 /// The numbers of the definitions are the least numbers that the rules ask for: the contract is the theorem.
-pub fn numbers_are_least() -> u8
+pub fn numbers_are_least()
     ensures { NumbersAreLeast }
-{
-    0
-}
+{}

@@ -8,3 +8,4 @@ pub mod Steps
 pub mod Transcript
 pub mod Cases
 pub mod Promises
+pub mod Modes

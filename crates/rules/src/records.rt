@@ -1,17 +1,36 @@
 //! What a catalogue keeps of each node and of each transaction.
 
+ghost use Rattle.std.specs.Prelude.{◌≡◌};
+ghost use Rattle.rules.specs.Modes.{kind_of};
+
+use calls::refusal::Refusal;
 use calls::sizes::{Stamp, StoredValue, TransactionNumber};
 use clock::{Clock, NodeMarks};
 
 /// A search reads; an update reads and writes.
-#[derive(Clone, Copy)]
+#[derive(Clone, Copy, Debug, PartialEq, Eq)]
 pub enum Kind {
     Search,
     Update,
 }
 
+/// The kind that the mode of a begin stands for.
+impl TryFrom<u8> for Kind {
+    type Error = Refusal;
+
+    ghost try_from_gives = { λ mode r. r ≡ kind_of mode };
+
+    fn try_from(mode: u8) -> Result<Self, Refusal> {
+        match mode {
+            0 => Ok(Kind::Search),
+            1 => Ok(Kind::Update),
+            _ => Err(Refusal::BadRecord),
+        }
+    }
+}
+
 /// How far a transaction has come. A search goes from open to finished, an update from open over offered to committed or aborted.
-#[derive(Clone, Copy)]
+#[derive(Clone, Copy, Debug, PartialEq, Eq)]
 pub enum State {
     Open,
     Offered,
@@ -21,7 +40,7 @@ pub enum State {
 }
 
 /// What a transaction can be asked.
-#[derive(Clone, Copy)]
+#[derive(Clone, Copy, Debug, PartialEq, Eq)]
 pub enum Event {
     Read,
     Write,
