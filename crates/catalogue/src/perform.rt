@@ -38,10 +38,9 @@ impl<S: VersionStore> Catalogue<S> {
     {
         match *call {
             Call::Make { .. } => refused(Refusal::MakeOutOfOrder),
-            Call::Begin { mode } => match mode {
-                0 => of_begin(self.begin(Kind::Search)),
-                1 => of_begin(self.begin(Kind::Update)),
-                _ => refused(Refusal::BadRecord),
+            Call::Begin { mode } => match Kind::try_from(mode) {
+                Ok(kind) => of_begin(self.begin(kind)),
+                Err(refusal) => refused(refusal),
             },
             Call::Read {
                 transaction,
