@@ -69,15 +69,10 @@ fn record_length(call: &Call<'_>) -> usize
 fn fits(calls: &[Call<'_>], room: usize) -> bool
     ensures { result ≡ nat_le (length (tape_of (map request calls.now))) room }
 {
-    let mut total: usize = 0;
-    for call in calls {
-        let more = record_length(call);
-        if room - total < more {
-            return false;
-        }
-        total += more;
-    }
-    true
+    calls
+        .iter()
+        .try_fold(room, |left, call| left.checked_sub(record_length(call)))
+        .is_some()
 }
 
 /// Writes some bytes from a place on, and gives the place behind them.
