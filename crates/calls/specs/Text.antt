@@ -1,8 +1,13 @@
--- The bytes of an answer.
+-- The bytes of an answer, and of a refusal.
 use Rattle.std.specs.Prelude.{ℕ, List, ◌++◌, codes, decimal}
 use Rattle.calls.specs.Refusals.{number}
+use Rattle.calls.specs.declared.refusal.Refusal.{Refusal}
 use Rattle.calls.specs.declared.answer.Answer.{Answer}
 use Rattle.calls.specs.declared.answer.Answer.TheVariants.{Done, Begun, Found, Polled, Yes, NoOvertaken, NoPlace, Committed, Aborted, Applied, Refused}
+
+-- The words of a refusal, with its number in decimal.
+abbrev pub words : Refusal → List ℕ
+words refusal = codes "refused " ++ decimal (number refusal)
 
 -- The words of an answer, with its numbers in decimal.
 abbrev pub text : Answer → List ℕ
@@ -16,4 +21,4 @@ text (NoPlace key) = codes "no place " ++ decimal key
 text (Committed stamp) = codes "commit " ++ decimal stamp
 text Aborted = codes "abort"
 text (Applied t) = codes "applied " ++ decimal t
-text (Refused refusal) = codes "refused " ++ decimal (number refusal)
+text (Refused refusal) = words refusal

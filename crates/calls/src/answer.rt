@@ -2,7 +2,7 @@ use crate::refusal::Refusal;
 use crate::sizes::{KeyNumber, Stamp, StoredValue, TransactionNumber};
 
 /// What the catalogue answers to a call, with the values of that answer.
-#[derive(Clone, Copy)]
+#[derive(Clone, Copy, Debug, PartialEq, Eq)]
 pub enum Answer {
     /// A make, write, cancel, learn or finish was carried out.
     Done,

@@ -12,7 +12,7 @@ pub enum Call<'a> {
         keys: u8,
         placement: &'a [u8],
     },
-    /// A new transaction: mode 0 is a `Search`, mode 1 an `Update`.
+    /// A new transaction: mode 0 is a `Search`, mode 1 an `Update`. A byte and no type of two cases, so that the writer, not its caller, refuses the others.
     Begin {
         mode: u8,
     },

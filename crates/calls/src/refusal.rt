@@ -2,7 +2,7 @@ ghost use Rattle.std.specs.Prelude.{◌≡◌};
 ghost use Rattle.calls.specs.Refusals.{number};
 
 /// Why a call, a record or a tape is refused. docs/REFUSALS.md says of each exactly when it comes.
-#[derive(Clone, Copy)]
+#[derive(Clone, Copy, Debug, PartialEq, Eq)]
 pub enum Refusal {
     MakeOutOfBounds = 1,
     NoSuchTransaction = 2,

@@ -1,10 +1,19 @@
-//! The words of an answer.
+//! The words of an answer, and of a refusal.
 
-ghost use Rattle.calls.specs.Text.{text};
+ghost use Rattle.calls.specs.Text.{text, words};
 ghost use Rattle.std.specs.Prelude.{Some};
 
 use crate::answer::Answer;
+use crate::refusal::Refusal;
 use std::fmt;
+
+impl fmt::Display for Refusal {
+    ghost output = { λ r. Some (words r) };
+
+    fn fmt<W: fmt::Write>(&self, f: &mut fmt::Formatter<W>) -> fmt::Result {
+        write!(f, "refused {}", self.number())
+    }
+}
 
 impl fmt::Display for Answer {
     ghost output = { λ a. Some (text a) };
@@ -21,10 +30,7 @@ impl fmt::Display for Answer {
             Answer::Committed { stamp } => write!(f, "commit {stamp}"),
             Answer::Aborted => write!(f, "abort"),
             Answer::Applied { transaction } => write!(f, "applied {transaction}"),
-            Answer::Refused { refusal } => {
-                let number = refusal.number();
-                write!(f, "refused {number}")
-            }
+            Answer::Refused { refusal } => write!(f, "{refusal}"),
         }
     }
 }

@@ -4,3 +4,4 @@ pub mod Numbers
 pub mod ReadsBack
 pub mod Records
 pub mod Requests
+pub mod Room

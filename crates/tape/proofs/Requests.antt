@@ -1,11 +1,11 @@
 -- Lists of calls, gone through one by one.
-use Rattle.std.proofs.Common.{◌≡◌, ℕ, ◌+◌, ◌<◌, ◌≤◌, Bool, ◌&&◌, List, [], ◌∷◌, ◌++◌, map, length, get_or, take, drop, sym, refl, ap, ◌∙◌, subst, arith}
+use Rattle.std.proofs.Common.{◌≡◌, ℕ, ◌+◌, ◌<◌, ◌≤◌, List, [], ◌∷◌, ◌++◌, map, length, get_or, take, drop, sym, refl, ap, ◌∙◌, subst, arith}
 use Rattle.std.proofs.lemmas.List.{drop_more, drop_all, flat_map_more, length-append, map_more, take_all}
 use Rattle.calls.specs.declared.call.Call.{Call}
 use Rattle.calls.specs.Requests.{Request, request}
 use Rattle.tape.specs.Layout.{record_of, tape_of}
 use Rattle.tape.specs.Trips.{Fit, AllFit}
-use Rattle.tape.specs.Writing.{writable, all_writable, over}
+use Rattle.tape.specs.Writing.{over}
 use Rattle.tape.proofs.Buffers.{then_over}
 
 pub requests_more : (calls : List Call) (i : ℕ) (d : Call) → i < length calls
@@ -14,12 +14,6 @@ requests_more calls i d h = ap (map request) (drop_more calls i d h)
 
 pub requests_none : (calls : List Call) (i : ℕ) → length calls ≤ i → map request (drop i calls) ≡ []
 requests_none calls i h = ap (map request) (drop_all i calls h)
-
--- whether the calls from i on are writable, by the call at i
-pub writable_more : (calls : List Call) (i : ℕ) (d : Call) (b : Bool) → i < length calls → b ≡ writable (request (get_or calls i d))
-    → all_writable (map request (drop i calls)) ≡ (b && all_writable (map request (drop (i + 1) calls)))
-writable_more calls i d b h e =
-    ap all_writable (requests_more calls i d h) ∙ ap (λ x. x && all_writable (map request (drop (i + 1) calls))) (sym e)
 
 -- how long the tape from i on is, by the record of the call at i
 pub tape_more : (calls : List Call) (i : ℕ) (d : Call) (n : ℕ) → i < length calls → n ≡ length (record_of (request (get_or calls i d)))

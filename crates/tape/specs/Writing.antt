@@ -1,5 +1,6 @@
 -- What a writer does with a list of requests.
-use Rattle.std.specs.Prelude.{ℕ, Bool, true, cond, ◌&&◌, ◌||◌, List, [], ◌∷◌, length, Ok, Err, Result, ◌==◌, nat_lt}
+use Rattle.std.specs.Prelude.{ℕ, Bool, true, cond, ◌||◌, List, length, Ok, Err, Result, ◌==◌, nat_lt}
+use Rattle.std.specs.List.{list_all}
 use Rattle.std.proofs.Math.Seq.{paste}
 use Rattle.calls.specs.declared.refusal.Refusal.{Refusal}
 use Rattle.calls.specs.declared.refusal.Refusal.TheVariants.{BadRecord, TapeFull}
@@ -21,8 +22,7 @@ writable (apply p) = true
 writable (finish t) = true
 
 abbrev pub all_writable : List Request → Bool
-all_writable [] = true
-all_writable (r ∷ rs) = writable r && all_writable rs
+all_writable rs = list_all writable rs
 
 -- A buffer with some bytes written over it from a place on.
 abbrev pub over : List ℕ → ℕ → List ℕ → List ℕ

@@ -1,26 +1,48 @@
 //! The kinds of record, and how long a tape may be.
 
-pub const MAKE: u16 = 0;
+ghost use Rattle.std.specs.Prelude.{◌≡◌};
+ghost use Rattle.tape.specs.Kinds.{kind_numbered};
 
-pub const BEGIN: u16 = 1;
+use calls::refusal::Refusal;
 
-pub const READ: u16 = 2;
+/// What a record says, by the number that stands behind its length.
+#[derive(Clone, Copy, Debug, PartialEq, Eq)]
+pub enum RecordKind {
+    Make = 0,
+    Begin = 1,
+    Read = 2,
+    Write = 3,
+    Offer = 4,
+    Prepare = 5,
+    Decide = 6,
+    Cancel = 7,
+    Learn = 8,
+    Apply = 9,
+    Finish = 10,
+}
 
-pub const WRITE: u16 = 3;
+impl TryFrom<u16> for RecordKind {
+    type Error = Refusal;
 
-pub const OFFER: u16 = 4;
+    ghost try_from_gives = { λ number result. result ≡ kind_numbered number };
 
-pub const PREPARE: u16 = 5;
-
-pub const DECIDE: u16 = 6;
-
-pub const CANCEL: u16 = 7;
-
-pub const LEARN: u16 = 8;
-
-pub const APPLY: u16 = 9;
-
-pub const FINISH: u16 = 10;
+    fn try_from(number: u16) -> Result<RecordKind, Refusal> {
+        match number {
+            0 => Ok(RecordKind::Make),
+            1 => Ok(RecordKind::Begin),
+            2 => Ok(RecordKind::Read),
+            3 => Ok(RecordKind::Write),
+            4 => Ok(RecordKind::Offer),
+            5 => Ok(RecordKind::Prepare),
+            6 => Ok(RecordKind::Decide),
+            7 => Ok(RecordKind::Cancel),
+            8 => Ok(RecordKind::Learn),
+            9 => Ok(RecordKind::Apply),
+            10 => Ok(RecordKind::Finish),
+            _ => Err(Refusal::BadRecord),
+        }
+    }
+}
 
 /// The most bytes of a tape.
 pub const MAX_TAPE: usize = 32_768;

@@ -7,13 +7,13 @@ ghost use Rattle.tape.specs.Trips.{LaidOut};
 
 use crate::decode::decode;
 use crate::kinds::MAX_TAPE;
-use crate::record::{ReadError, Record};
+use crate::record::Record;
 use calls::call::Call;
 use calls::refusal::Refusal;
-use std::alloc::Global;
+use std::alloc::{AllocError, Global};
 
 /// The records of a tape in their order, read in one pass. Every sequence of bytes gives such a list: what is wrong with the tape or with a record stands in it.
-pub fn read(heap: Global, tape: &[u8]) -> Result<Vec<Record<'_>>, ReadError>
+pub fn read(heap: Global, tape: &[u8]) -> Result<Vec<Record<'_>>, AllocError>
     ensures records { IfOk result (λ v. map entry_of v.items ≡ read_tape tape.now) }
     ensures laid_out { IfOk result (λ v. LaidOut (map entry_of v.items) tape.now) }
 {

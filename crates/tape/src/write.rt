@@ -7,7 +7,7 @@ ghost use Rattle.tape.specs.Reading.{read_tape};
 ghost use Rattle.tape.specs.Trips.{Fit, AllFit, placed};
 ghost use Rattle.tape.specs.Writing.{writable, all_writable, over, written};
 
-use crate::kinds;
+use crate::kinds::{MAX_TAPE, RecordKind};
 use calls::call::Call;
 use calls::refusal::Refusal;
 use calls::sizes::{KeyNumber, StoredValue, TransactionNumber};
@@ -20,7 +20,7 @@ pub fn write(calls: &[Call<'_>], buffer: &mut [u8]) -> Result<usize, Refusal>
     if !are_writable(calls) {
         return Err(Refusal::BadRecord);
     }
-    if !fits(calls, buffer.len().min(kinds::MAX_TAPE)) {
+    if !fits(calls, buffer.len().min(MAX_TAPE)) {
         return Err(Refusal::TapeFull);
     }
     Ok(put_calls(calls, buffer))
@@ -44,12 +44,7 @@ fn is_writable(call: &Call<'_>) -> bool
 fn are_writable(calls: &[Call<'_>]) -> bool
     ensures { result ≡ all_writable (map request calls.now) }
 {
-    for call in calls {
-        if !is_writable(call) {
-            return false;
-        }
-    }
-    true
+    calls.iter().all(is_writable)
 }
 
 /// How many bytes the record of a call has.
@@ -58,16 +53,15 @@ fn record_length(call: &Call<'_>) -> usize
 {
     match call {
         Call::Make { placement, .. } => 6 + placement.len(),
-        Call::Begin { .. } => 5,
-        Call::Read { .. } => 7,
         Call::Write { .. } => 14,
-        Call::Offer { .. } => 5,
-        Call::Prepare { .. } => 6,
-        Call::Decide { .. } => 5,
-        Call::Cancel { .. } => 5,
-        Call::Learn { .. } => 6,
-        Call::Apply { .. } => 5,
-        Call::Finish { .. } => 5,
+        Call::Read { .. } => 7,
+        Call::Prepare { .. } | Call::Learn { .. } => 6,
+        Call::Begin { .. }
+        | Call::Offer { .. }
+        | Call::Decide { .. }
+        | Call::Cancel { .. }
+        | Call::Apply { .. }
+        | Call::Finish { .. } => 5,
     }
 }
 
@@ -75,15 +69,10 @@ fn record_length(call: &Call<'_>) -> usize
 fn fits(calls: &[Call<'_>], room: usize) -> bool
     ensures { result ≡ nat_le (length (tape_of (map request calls.now))) room }
 {
-    let mut total: usize = 0;
-    for call in calls {
-        let more = record_length(call);
-        if room - total < more {
-            return false;
-        }
-        total += more;
-    }
-    true
+    calls
+        .iter()
+        .try_fold(room, |left, call| left.checked_sub(record_length(call)))
+        .is_some()
 }
 
 /// Writes some bytes from a place on, and gives the place behind them.
@@ -124,13 +113,25 @@ fn put_call(buffer: &mut [u8], at: usize, call: &Call<'_>) -> usize
             nodes,
             keys,
             placement,
-        } => put_record(buffer, at, kinds::MAKE, &[nodes, keys], placement),
-        Call::Begin { mode } => put_record(buffer, at, kinds::BEGIN, &[mode], &[]),
+        } => put_record(
+            buffer,
+            at,
+            RecordKind::Make as u16,
+            &[nodes, keys],
+            placement,
+        ),
+        Call::Begin { mode } => put_record(buffer, at, RecordKind::Begin as u16, &[mode], &[]),
         Call::Read {
             transaction,
             key,
             node,
-        } => put_record(buffer, at, kinds::READ, &[transaction, key, node], &[]),
+        } => put_record(
+            buffer,
+            at,
+            RecordKind::Read as u16,
+            &[transaction, key, node],
+            &[],
+        ),
         Call::Write {
             transaction,
             key,
@@ -138,29 +139,53 @@ fn put_call(buffer: &mut [u8], at: usize, call: &Call<'_>) -> usize
         } => put_record(
             buffer,
             at,
-            kinds::WRITE,
+            RecordKind::Write as u16,
             &write_fields(transaction, key, value),
             &[],
         ),
-        Call::Offer { transaction } => put_record(buffer, at, kinds::OFFER, &[transaction], &[]),
+        Call::Offer { transaction } => put_record(
+            buffer,
+            at,
+            RecordKind::Offer as u16,
+            &[transaction],
+            &[],
+        ),
         Call::Prepare { transaction, node } => put_record(
             buffer,
             at,
-            kinds::PREPARE,
+            RecordKind::Prepare as u16,
             &[transaction, node],
             &[],
         ),
-        Call::Decide { transaction } => put_record(buffer, at, kinds::DECIDE, &[transaction], &[]),
-        Call::Cancel { transaction } => put_record(buffer, at, kinds::CANCEL, &[transaction], &[]),
+        Call::Decide { transaction } => put_record(
+            buffer,
+            at,
+            RecordKind::Decide as u16,
+            &[transaction],
+            &[],
+        ),
+        Call::Cancel { transaction } => put_record(
+            buffer,
+            at,
+            RecordKind::Cancel as u16,
+            &[transaction],
+            &[],
+        ),
         Call::Learn { transaction, node } => put_record(
             buffer,
             at,
-            kinds::LEARN,
+            RecordKind::Learn as u16,
             &[transaction, node],
             &[],
         ),
-        Call::Apply { node } => put_record(buffer, at, kinds::APPLY, &[node], &[]),
-        Call::Finish { transaction } => put_record(buffer, at, kinds::FINISH, &[transaction], &[]),
+        Call::Apply { node } => put_record(buffer, at, RecordKind::Apply as u16, &[node], &[]),
+        Call::Finish { transaction } => put_record(
+            buffer,
+            at,
+            RecordKind::Finish as u16,
+            &[transaction],
+            &[],
+        ),
     }
 }
 

@@ -1,17 +1,13 @@
-use Rattle.std.proofs.Common.{true, false, sym, ap, ◌∙◌}
-use Rattle.tape.specs.Writing.{all_writable}
-use Rattle.tape.proofs.Requests.{requests_none, writable_more}
+use Rattle.std.proofs.Common.{rules, tests, sym, ◌∙◌}
+use Rattle.std.proofs.lemmas.Iterator.{YieldsList-from_slice}
+use Rattle.std.proofs.lemmas.Iterator.Search.{all_from_yields_List}
+use Rattle.std.proofs.lemmas.List.Folds.{list_all-map}
+use Rattle.calls.specs.declared.call.Call.{Call}
+use Rattle.calls.specs.Requests.{request}
+use Rattle.tape.specs.Writing.{writable}
 use Rattle.tape.proofs.write.are_writable.Goals as goal
 
-pub loop-call-preserved : goal.loop-call-preserved
-loop-call-preserved c =
-    sym (writable_more c.args.calls.now c.loop-call.call-index _ true c.loop-call-test.true c.if-not-is_writable.ensures)
-    ∙ c.loop-call.invariant
-
 pub returns : goal.returns
-returns c = sym (ap all_writable (requests_none c.args.calls.now c.loop-call.call-index c.loop-call-test.false)) ∙ c.loop-call.invariant
-
-pub returns-then-not-is_writable : goal.returns-then-not-is_writable
-returns-then-not-is_writable c =
-    sym (writable_more c.args.calls.now c.loop-call.call-index _ false c.loop-call-test.true c.if-not-is_writable.ensures)
-    ∙ c.loop-call.invariant
+returns c =
+    all_from_yields_List (λ (x : Call). writable (request x)) _ _ _ c.all.ensures.ran (YieldsList-from_slice c.args.calls.now (cc)) (λ x b q k. search (rules, tests))
+    ∙ sym (list_all-map writable request c.args.calls.now)

@@ -1,19 +1,9 @@
-use Rattle.std.proofs.Common.{sym, arith}
-use Rattle.std.proofs.lemmas.Bool.{le-leb, lt-leb}
-use Rattle.tape.proofs.Requests.{tape_more, tape_none}
+use Rattle.std.proofs.Common.{rules, tests, ◌∙◌}
+use Rattle.std.proofs.lemmas.Iterator.{YieldsList-from_slice}
+use Rattle.tape.proofs.Room.{room_from_try_fold}
 use Rattle.tape.proofs.write.fits.Goals as goal
-
-pub returns-then-room-total : goal.returns-then-room-total
-returns-then-room-total c =
-    let more = tape_more c.args.calls.now c.loop-call.call-index _ c.record_length-more.result c.loop-call-test.true c.record_length-more.ensures in
-    sym (lt-leb _ c.args.room (omega (arith, more, c.loop-call.invariant.0)))
-
-pub loop-call-preserved : goal.loop-call-preserved
-loop-call-preserved c =
-    let more = tape_more c.args.calls.now c.loop-call.call-index _ c.record_length-more.result c.loop-call-test.true c.record_length-more.ensures in
-    (omega (arith, more, c.loop-call.invariant.0), omega arith)
 
 pub returns : goal.returns
 returns c =
-    let none = tape_none c.args.calls.now c.loop-call.call-index c.loop-call-test.false in
-    sym (le-leb _ c.args.room (omega (arith, none, c.loop-call.invariant.0, c.loop-call.invariant.1)))
+    c.is_some.ensures
+    ∙ room_from_try_fold _ _ _ _ _ _ _ _ c.args.calls.now c.try_fold.ensures.ran (YieldsList-from_slice c.args.calls.now (cc)) (λ a x v h k. search (rules, tests))
