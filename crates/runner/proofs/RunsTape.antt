@@ -1,5 +1,5 @@
 -- The records of a tape, one after the other, and what is promised after the accepted make.
-use Rattle.std.proofs.Common.{◌≡◌, ℕ, ◌+◌, ◌<◌, Bool, true, false, cond, List, [], ◌∷◌, ◌++◌, map, length, get_or, take, Some, None, Ok, Err, Option, Result, sym, refl, ap, ◌∙◌, subst, arith, MatchResult}
+use Rattle.std.proofs.Common.{◌≡◌, ℕ, ◌+◌, ◌<◌, Bool, true, false, cond, List, [], ◌∷◌, ◌++◌, map, length, get_or, take, Some, None, Ok, Err, Option, sym, refl, ap, ◌∙◌, subst, arith}
 use Rattle.std.proofs.lemmas.Bool.Decides.{nat_tests}
 use Rattle.std.proofs.lemmas.List.{take_more, map_push}
 use Rattle.calls.specs.declared.answer.Answer.{Answer}
@@ -138,8 +138,3 @@ pub tape_told : (free : FreeRule) (tape : List ℕ) (entries : List Entry) (line
 tape_told free tape entries lines unit is done =
     let run : RecordsRun free (read_tape tape) lines unit = subst (λ (es : List Entry). RecordsRun free es lines unit) is done in
     subst (λ (ls : List Line). Told free (made_by (read_tape tape)) (listed_calls (read_tape tape) ls)) (sym run.listed) (kept free (read_tape tape)).1
-
--- What is known of the value of a result, told otherwise.
-pub told_otherwise : {A E : Type 0} {P Q : A → Type 0} (R : E → Type 0) (r : Result A E) → ((a : A) → P a → Q a) → MatchResult r P R → MatchResult r Q R
-told_otherwise R (Ok a) f p = f a p
-told_otherwise R (Err e) f p = p

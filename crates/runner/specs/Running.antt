@@ -176,11 +176,6 @@ TapeTold free tape lines = Told free (made_by (read_tape tape)) (listed_calls (r
 
 -- ── The unit of the program ──
 
--- The world that a unit stands for, given what a catalogue stands for.
-abbrev pub unit_world : {C : Type 0} → (C → World) → Option C → Option World
-unit_world world None = None
-unit_world world (Some catalogue) = Some (world catalogue)
-
 -- The rule by which a unit's store counts its free places. Any rule will do where no catalogue is made: none is used.
 abbrev pub CountsBy : {C : Type 0} → (C → FreeRule) → FreeRule → Option C → Type 0
 CountsBy rule free None = Unit {0}

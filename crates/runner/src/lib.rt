@@ -1,14 +1,14 @@
 //! A tape run on a new unit, over any store.
 #![tactic(auto)]
 
-ghost use Rattle.std.specs.Prelude.{◌≡◌, map, MatchResult};
+ghost use Rattle.std.specs.Prelude.{◌≡◌, map, IfOk};
+ghost use Rattle.std.specs.Option.{option_map};
 ghost use Rattle.calls.specs.Requests.{request};
 ghost use Rattle.tape.specs.Reading.{requested};
 ghost use Rattle.tape.specs.Records.{entry_of};
 ghost use Rattle.store.specs.Model.{FreeRule};
-ghost use Rattle.catalogue.specs.Tables.{world_of};
-ghost use Rattle.runner.specs.Running.{first_step, on_content, unit_world, CountsBy, RecordsRun, TapeRun, TapeTold};
-ghost use Rattle.runner.specs.declared.RunError.TheVariants.{OutOfMemory};
+ghost use Rattle.catalogue.specs.Tables.{world};
+ghost use Rattle.runner.specs.Running.{first_step, on_content, CountsBy, RecordsRun, TapeRun, TapeTold};
 
 use calls::answer::Answer;
 use calls::call::Call;
@@ -16,33 +16,10 @@ use calls::refusal::Refusal;
 use catalogue::catalogue::Catalogue;
 use catalogue::make::MakeError;
 use listing::line::Line;
-use std::alloc::{AllocFailed, Global};
+use std::alloc::{AllocError, Global};
 use store::VersionStore;
 use tape::read::read;
-use tape::record::{ReadError, Record};
-
-/// Why a tape was not run to its end.
-#[derive(Clone, Copy)]
-pub enum RunError {
-    /// There is not enough memory.
-    OutOfMemory,
-}
-
-impl From<ReadError> for RunError {
-    ghost from_gives = { λ _ r. r ≡ OutOfMemory };
-
-    fn from(_error: ReadError) -> RunError {
-        RunError::OutOfMemory
-    }
-}
-
-impl<T: Drop> From<AllocFailed<T>> for RunError {
-    ghost from_gives = { λ _ r. r ≡ OutOfMemory };
-
-    fn from(_refused: AllocFailed<T>) -> RunError {
-        RunError::OutOfMemory
-    }
-}
+use tape::record::Record;
 
 /// What came of a tape: a line for each record, and the unit's catalogue after them, if one was made.
 #[derive(Drop)]
@@ -55,8 +32,8 @@ pub struct Report<S: VersionStore> {
 fn first_call<S: VersionStore>(
     heap: Global,
     call: &Call<'_>,
-) -> Result<(Answer, Option<Catalogue<S>>), RunError>
-    ensures { MatchResult result (λ o. (o.0, unit_world (λ c. world_of c.table (S.VersionStore.meaning c.store)) o.1) ≡ first_step (request call.now)) (λ e. e ≡ OutOfMemory) }
+) -> Result<(Answer, Option<Catalogue<S>>), AllocError>
+    ensures { IfOk result (λ o. (o.0, option_map (world S.meaning) o.1) ≡ first_step (request call.now)) }
 {
     let Call::Make {
         nodes,
@@ -70,7 +47,7 @@ fn first_call<S: VersionStore>(
     match Catalogue::make(heap, nodes, keys, placement) {
         Ok(catalogue) => Ok((Answer::Done, Some(catalogue))),
         Err(MakeError::Refused { refusal }) => Ok((Answer::Refused { refusal }, None)),
-        Err(MakeError::OutOfMemory) => Err(RunError::OutOfMemory),
+        Err(MakeError::OutOfMemory) => Err(AllocError),
     }
 }
 
@@ -79,9 +56,9 @@ fn on_record<S: VersionStore>(
     heap: Global,
     unit: &mut Option<Catalogue<S>>,
     content: &Result<Call<'_>, Refusal>,
-) -> Result<Answer, RunError>
-    ensures step { MatchResult result (λ a. (free : FreeRule) → CountsBy (λ c. S.VersionStore.free c.store) free unit.old → (a, unit_world (λ c. world_of c.table (S.VersionStore.meaning c.store)) unit.new) ≡ on_content free (unit_world (λ c. world_of c.table (S.VersionStore.meaning c.store)) unit.old) (requested content.now)) (λ e. e ≡ OutOfMemory) }
-    ensures rule { MatchResult result (λ a. (free : FreeRule) → CountsBy (λ c. S.VersionStore.free c.store) free unit.new → CountsBy (λ c. S.VersionStore.free c.store) free unit.old) (λ e. e ≡ OutOfMemory) }
+) -> Result<Answer, AllocError>
+    ensures step { IfOk result (λ a. (free : FreeRule) → CountsBy (λ c. S.free c.store) free unit.old → (a, option_map (world S.meaning) unit.new) ≡ on_content free (option_map (world S.meaning) unit.old) (requested content.now)) }
+    ensures rule { IfOk result (λ a. (free : FreeRule) → CountsBy (λ c. S.free c.store) free unit.new → CountsBy (λ c. S.free c.store) free unit.old) }
 {
     let call = match content {
         Ok(call) => call,
@@ -96,8 +73,8 @@ fn on_record<S: VersionStore>(
 }
 
 /// Runs some records on a new unit.
-fn run_records<S: VersionStore>(heap: Global, records: &[Record<'_>]) -> Result<Report<S>, RunError>
-    ensures { MatchResult result (λ o. (free : FreeRule) → CountsBy (λ c. S.VersionStore.free c.store) free o.catalogue → RecordsRun free (map entry_of records.now) o.lines.items (unit_world (λ c. world_of c.table (S.VersionStore.meaning c.store)) o.catalogue)) (λ e. e ≡ OutOfMemory) }
+fn run_records<S: VersionStore>(heap: Global, records: &[Record<'_>]) -> Result<Report<S>, AllocError>
+    ensures { IfOk result (λ o. (free : FreeRule) → CountsBy (λ c. S.free c.store) free o.catalogue → RecordsRun free (map entry_of records.now) o.lines.items (option_map (world S.meaning) o.catalogue)) }
 {
     let mut lines = Vec::new(heap);
     let mut unit = None;
@@ -118,9 +95,9 @@ fn run_records<S: VersionStore>(heap: Global, records: &[Record<'_>]) -> Result<
 ///
 /// The contract says that the lines are those of the rules over the bytes of the tape, and carries every promise about the calls that the tape
 /// makes after its accepted make: with the answers of the rules, and with those that the lines give.
-pub fn run_tape<S: VersionStore>(heap: Global, tape: &[u8]) -> Result<Report<S>, RunError>
-    ensures ran { MatchResult result (λ o. (free : FreeRule) → CountsBy (λ c. S.VersionStore.free c.store) free o.catalogue → TapeRun free tape.now o.lines.items (unit_world (λ c. world_of c.table (S.VersionStore.meaning c.store)) o.catalogue)) (λ e. e ≡ OutOfMemory) }
-    ensures told { MatchResult result (λ o. (free : FreeRule) → CountsBy (λ c. S.VersionStore.free c.store) free o.catalogue → TapeTold free tape.now o.lines.items) (λ e. e ≡ OutOfMemory) }
+pub fn run_tape<S: VersionStore>(heap: Global, tape: &[u8]) -> Result<Report<S>, AllocError>
+    ensures ran { IfOk result (λ o. (free : FreeRule) → CountsBy (λ c. S.free c.store) free o.catalogue → TapeRun free tape.now o.lines.items (option_map (world S.meaning) o.catalogue)) }
+    ensures told { IfOk result (λ o. (free : FreeRule) → CountsBy (λ c. S.free c.store) free o.catalogue → TapeTold free tape.now o.lines.items) }
 {
     let records = read(heap, tape)?;
     run_records(heap, records.as_slice())

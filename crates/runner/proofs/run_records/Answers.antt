@@ -2,9 +2,10 @@ use Rattle.std.proofs.Common.{List, map, get_or, take, subst}
 use Rattle.std.proofs.lemmas.List.{take_all}
 use Rattle.tape.specs.declared.record.Record.{Record}
 use Rattle.tape.specs.Reading.{Entry}
+use Rattle.std.specs.Option.{option_map}
 use Rattle.tape.specs.Records.{entry_of}
-use Rattle.catalogue.specs.Tables.{world_of}
-use Rattle.runner.specs.Running.{unit_world, RecordsRun}
+use Rattle.catalogue.specs.Tables.{world}
+use Rattle.runner.specs.Running.{RecordsRun}
 use Rattle.runner.proofs.RunsTape.{none_yet, one_more, no_record, taken_more}
 use Rattle.runner.proofs.run_records.Goals as goal
 
@@ -14,8 +15,8 @@ loop-record-init g c = λ free any. none_yet free c.new-lines.result.items c.new
 pub loop-record-preserved : goal.loop-record-preserved
 loop-record-preserved g c =
     let s = g.S.VersionStore in
-    let before = unit_world (λ v. world_of v.table (s.meaning v.store)) c.loop-record.unit in
-    let after = unit_world (λ v. world_of v.table (s.meaning v.store)) c.on_record.new.unit in
+    let before = option_map (world s.meaning) c.loop-record.unit in
+    let after = option_map (world s.meaning) c.on_record.new.unit in
     let records = c.args.records.now in
     let i = c.loop-record.record-index in
     let lines = c.push.new.self.items in
@@ -28,7 +29,7 @@ loop-record-preserved g c =
 pub returns : goal.returns
 returns g c =
     let s = g.S.VersionStore in
-    let unit = unit_world (λ v. world_of v.table (s.meaning v.store)) c.loop-record.unit in
+    let unit = option_map (world s.meaning) c.loop-record.unit in
     λ free counts.
     subst (λ (l : List Record). RecordsRun free (map entry_of l) c.loop-record.lines.items unit)
     (take_all c.loop-record.record-index c.args.records.now c.loop-record-test.false) (c.loop-record.invariant free counts)
