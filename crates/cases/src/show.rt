@@ -10,15 +10,14 @@ use tape::write::write;
 
 /// The listing of a tape over a store, without its first lines.
 fn listed<S: VersionStore>(heap: Global, tape: &[u8], skipped: usize) -> anyhow::Result<String> {
-    let report: Report<S> = match run_tape(heap, tape) {
-        Ok(report) => report,
-        Err(_) => return Err(anyhow!("not enough memory to run the tape")),
-    };
+    let report: Report<S> = run_tape(heap, tape).map_err(|_| anyhow!(
+        "not enough memory to run the tape"
+    ))?;
     let lines = report.lines.as_slice();
-    if lines.len() < skipped {
-        return Err(anyhow!("too few lines"));
-    }
-    let text = listing_of(heap, &lines[skipped..])?;
+    let shown = lines
+        .get(skipped..)
+        .ok_or_else(|| anyhow!("too few lines"))?;
+    let text = listing_of(heap, shown)?;
     Ok(text)
 }
 
@@ -47,14 +46,12 @@ pub(crate) fn show_end(
     skipped: usize,
 ) -> anyhow::Result<()> {
     let mut buffer = vec![in rt.alloc(); 0u8; 32_768]?;
-    let Ok(len) = write(calls, buffer.as_mut_slice()) else {
-        return Err(anyhow!("the calls have no tape"));
-    };
-    let bytes = buffer.as_slice();
-    if bytes.len() < len {
-        return Err(anyhow!("the tape is too long"));
-    }
-    show_tape(rt, title, &bytes[0..len], skipped)
+    let len = write(calls, buffer.as_mut_slice()).map_err(|_| anyhow!("the calls have no tape"))?;
+    let tape = buffer
+        .as_slice()
+        .get(..len)
+        .ok_or_else(|| anyhow!("the tape is too long"))?;
+    show_tape(rt, title, tape, skipped)
 }
 
 pub(crate) fn show(rt: &HostRuntime, title: &str, calls: &[Call<'_>]) -> anyhow::Result<()> {

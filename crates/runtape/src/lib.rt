@@ -1,0 +1,34 @@
+//! What a program does that runs a tape: the listing of the tape that some input gives, over any store.
+#![tactic(auto)]
+
+ghost use Rattle.std.specs.Prelude.{IfOk, IfSome, string_bytes};
+ghost use Rattle.catalogue.specs.Tables.{world};
+ghost use Rattle.runtape.specs.Listed.{Listed};
+
+use anyhow::anyhow;
+use listing::listing_of;
+use runner::{Report, run_tape};
+use std::alloc::Global;
+use std::io::Read;
+use store::VersionStore;
+
+/// A byte more than a tape may have: of a tape that is too long no more has to be read.
+const ENOUGH: u64 = 32_769;
+
+/// Reads a tape to its end, runs it on a new unit, and gives the listing. Of a tape that is too long a byte more is read than a tape may have.
+///
+/// Where the bytes of the input are known, the listing is theirs.
+pub fn listing_from<S: VersionStore, R: Read + Drop>(
+    heap: Global,
+    input: R,
+) -> anyhow::Result<String>
+    ensures { IfOk result (λ text. IfSome (R.remaining input) (λ tape. Listed (world S.meaning) (λ c. S.free c.store) tape (string_bytes text))) }
+{
+    let mut tape = Vec::new(heap);
+    input.take(ENOUGH).read_to_end(&mut tape)?;
+    let report: Report<S> = run_tape(heap, tape.as_slice()).map_err(|_| anyhow!(
+        "not enough memory to run the tape"
+    ))?;
+    let listing = listing_of(heap, report.lines.as_slice())?;
+    Ok(listing)
+}
