@@ -1,3 +1,4 @@
+use crate::brief::{apply, finish, make, offer, read, reader, update, write_key};
 use crate::show::{show, show_tape};
 use calls::call::Call;
 use tape::write::write as write_tape;
@@ -5,18 +6,18 @@ use tape::write::write as write_tape;
 /// Makes that cannot be made, and records before and after the accepted one.
 pub(crate) fn makes(rt: &HostRuntime) -> anyhow::Result<()> {
     let calls = [
-        reader!(),
-        make!(0, 1, &[1]),
-        make!(9, 1, &[1]),
-        make!(2, 0, &[]),
-        make!(1, 65, &[1; 65]),
-        make!(1, 2, &[1, 0]),
-        make!(2, 2, &[1, 4]),
-        apply!(0),
-        make!(2, 3, &[1, 2, 3]),
-        make!(2, 3, &[1, 2, 3]),
-        make!(0, 1, &[1]),
-        update!(),
+        reader(),
+        make(0, 1, &[1]),
+        make(9, 1, &[1]),
+        make(2, 0, &[]),
+        make(1, 65, &[1; 65]),
+        make(1, 2, &[1, 0]),
+        make(2, 2, &[1, 4]),
+        apply(0),
+        make(2, 3, &[1, 2, 3]),
+        make(2, 3, &[1, 2, 3]),
+        make(0, 1, &[1]),
+        update(),
     ];
     show(rt, "makes", &calls)
 }
@@ -49,31 +50,31 @@ fn show_written(rt: &HostRuntime, calls: &[Call<'_>]) -> anyhow::Result<()> {
 /// Calls that the writer refuses: a begin of no mode, and an offer more than the buffer takes.
 pub(crate) fn unwritable(rt: &HostRuntime) -> anyhow::Result<()> {
     println!(rt; "writing a tape")?;
-    show_written(rt, &[offer!(1)])?;
-    show_written(rt, &[offer!(1), offer!(1)])?;
-    show_written(rt, &[offer!(1), offer!(1), Call::Begin { mode: 2 }])
+    show_written(rt, &[offer(1)])?;
+    show_written(rt, &[offer(1), offer(1)])?;
+    show_written(rt, &[offer(1), offer(1), Call::Begin { mode: 2 }])
 }
 
 /// Numbers of transactions, nodes and keys that there are not. The lowest refusal comes first.
 pub(crate) fn no_such(rt: &HostRuntime) -> anyhow::Result<()> {
     let calls = [
-        make!(2, 3, &[1, 2, 3]),
-        read!(0, 0, 0),
-        read!(1, 0, 0),
-        reader!(),
-        read!(1, 0, 2),
-        read!(1, 3, 0),
-        read!(2, 3, 2),
-        read!(1, 3, 2),
-        read!(1, 1, 0),
-        apply!(2),
-        write_key!(1, 0, 5),
-        write_key!(1, 3, 5),
-        read!(1, 0, 0),
-        finish!(1),
-        finish!(1),
-        read!(1, 1, 0),
-        read!(1, 0, 0),
+        make(2, 3, &[1, 2, 3]),
+        read(0, 0, 0),
+        read(1, 0, 0),
+        reader(),
+        read(1, 0, 2),
+        read(1, 3, 0),
+        read(2, 3, 2),
+        read(1, 3, 2),
+        read(1, 1, 0),
+        apply(2),
+        write_key(1, 0, 5),
+        write_key(1, 3, 5),
+        read(1, 0, 0),
+        finish(1),
+        finish(1),
+        read(1, 1, 0),
+        read(1, 0, 0),
     ];
     show(rt, "no such transaction, node or key", &calls)
 }
