@@ -1,4 +1,3 @@
 pub mod Slots
 pub mod Table
-pub mod Rows
-pub mod Stacks
+pub mod Lengths

@@ -45,10 +45,8 @@ pub back_push : (m : Meaning) (node : ℕ) (ks : List ℕ) (key : ℕ) → back_
 back_push m node ks key = fun_ext (λ n. fun_ext (λ k. back_push_at m node ks key n k))
 
 -- A turn of the loop that gives back.
-pub back_more : (m w : Meaning) (node : ℕ) (ks : List ℕ) (i : ℕ) → i < length ks → w ≡ all_back m node (take i ks) → back_after w node (get_or ks i 0) ≡ all_back m node (take (i + 1) ks)
-back_more m w node ks i within is =
-    ap (λ v. back_after v node (get_or ks i 0)) is ∙ back_push m node (take i ks) (get_or ks i 0)
-    ∙ ap (all_back m node) (sym (take_more ks i 0 within))
+pub back_more : (m : Meaning) (node : ℕ) (ks : List ℕ) (i : ℕ) → i < length ks → back_after (all_back m node (take i ks)) node (get_or ks i 0) ≡ all_back m node (take (i + 1) ks)
+back_more m node ks i within = back_push m node (take i ks) (get_or ks i 0) ∙ ap (all_back m node) (sym (take_more ks i 0 within))
 
 -- One key more at the end of the list, set aside.
 aside_push_at : (m : Meaning) (node : ℕ) (ks : List ℕ) (key : ℕ) → in_range node key ≡ true → (n k : ℕ) → with_chain (all_aside m node ks) node key (one_aside (all_aside m node ks node key)) n k ≡ all_aside m node (ks ++ key ∷ []) n k
@@ -121,3 +119,6 @@ module _ (free : FreeRule) (node : ℕ) (m w : Meaning) (ks : List ℕ) (i : ℕ
   as_before v refused v_is =
       ap (λ x. all_back x node (take i ks)) (v_is ∙ cond-false (aside_granted free w node (get_or ks i 0)) (with_chain w node (get_or ks i 0) (one_aside (w node (get_or ks i 0)))) w refused ∙ w_is)
       ∙ undone m node (take i ks)
+
+-- What the loop that sets aside needs of a turn.
+pub ruleset aside_turn = (aside_more, granted_more, refused_here, as_before)

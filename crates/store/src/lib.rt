@@ -20,6 +20,21 @@ pub struct Version {
     pub writer: TransactionNumber,
 }
 
+// The version that every chain begins with. It takes no place.
+pub const FIRST_VERSION: Version = Version {
+    value: 0,
+    writer: 0,
+};
+
+// A version as value and writer.
+impl From<Version> for (u64, TransactionNumber) {
+    ghost from_gives = { λ version pair. pair ≡ (version.value, version.writer) };
+
+    fn from(version: Version) -> (u64, TransactionNumber) {
+        (version.value, version.writer)
+    }
+}
+
 // What a store answers where it refuses: which call it was says why.
 #[derive(Clone, Copy, Debug)]
 pub struct StoreRefusal;
@@ -35,6 +50,8 @@ pub fn chain_index(node: u8, key: u8) -> Option<usize>
     }
 }
 
+// The rule for free places is a member of the store's value, so that a store may have a depth of its own; that no call
+// changes the rule is a clause of each call.
 pub trait VersionStore: Sized + Drop {
     // What the store holds: for each node and key a chain of versions and the places set aside.
     ghost meaning: { Self → Meaning };
@@ -48,7 +65,10 @@ pub trait VersionStore: Sized + Drop {
 
     // The newest version of a key at a node, as value and writer.
     fn newest(&self, node: u8, key: u8) -> Option<(u64, TransactionNumber)>
-        ensures { result ≡ nth_answer (meaning self.now) node key 0 };
+        ensures { result ≡ nth_answer (meaning self.now) node key 0 }
+    {
+        self.nth(node, key, 0)
+    }
 
     // The version that is so many steps older than the newest.
     fn nth(&self, node: u8, key: u8, steps: usize) -> Option<(u64, TransactionNumber)>
@@ -81,8 +101,6 @@ pub trait VersionStore: Sized + Drop {
 
 // After any list of calls on a new store, whichever were refused, each chain lists what was put there, and the places
 // set aside are those granted and not used up.
-pub fn stores_remember() -> u8
+pub fn stores_remember()
     ensures { StoresRemember }
-{
-    0
-}
+{}

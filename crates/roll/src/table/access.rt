@@ -1,12 +1,14 @@
 // The parts of a roll, read and written.
-ghost use Rattle.std.specs.Prelude.{◌≡◌, ◌+◌, ◌<◌, ◌≤◌, true, ◌∷◌, IfSome, if◌then◌else◌, Some, None};
+ghost use Rattle.std.specs.Prelude.{◌≡◌, ◌+◌, ◌<◌, ◌≤◌, true, ◌∷◌, slice_get, IfSome, if◌then◌else◌, Some, None};
 ghost use Rattle.store.specs.Model.{in_range, with_chain};
 ghost use Rattle.roll.specs.Totals.{room};
+ghost use Rattle.roll.specs.Entries.{versions_of};
 ghost use Rattle.roll.specs.Table.{roll_meaning};
 
 use super::{PLACES, Roll};
 use crate::entry::Entry;
-use store::{Version, chain_index};
+use std::iter::once;
+use store::{FIRST_VERSION, Version, chain_index};
 
 impl Roll {
     // How many places are free.
@@ -48,4 +50,19 @@ impl Roll {
     {
         self.entries.push_reserved(Entry { node, key, version });
     }
+}
+
+// The version that is so many steps older than the newest of a node and key: their entries, the newest first, and then the
+// first version. Where it is inlined, each part of the chain keeps a counter, and an entry takes a fifth more instructions.
+#[inline(never)]
+pub(crate) fn nth_version(entries: &[Entry], node: u8, key: u8, steps: usize) -> Option<Version>
+    ensures { result ≡ slice_get (versions_of node key entries.now) steps }
+{
+    entries
+        .iter()
+        .rev()
+        .filter(|entry| entry.node == node && entry.key == key)
+        .map(|entry| entry.version)
+        .chain(once(FIRST_VERSION))
+        .nth(steps)
 }

@@ -5,19 +5,10 @@ ghost use Rattle.roll.specs.Totals.{room, roll_free};
 ghost use Rattle.roll.specs.Table.{roll_meaning};
 ghost use Rattle.roll.specs.Moves.{chains_short};
 
+use super::access::nth_version;
 use super::{PLACES, Roll};
 use std::alloc::{AllocError, Global};
 use store::{StoreRefusal, TransactionNumber, Version, VersionStore};
-
-// A count of none for every node and key.
-fn no_places_aside(heap: Global) -> Result<Vec<usize>, AllocError>
-    ensures items { IfOk result (λ v. v.items ≡ replicate 512 0) }
-    ensures len { IfOk result (λ v. v.len ≡ 512) }
-{
-    let mut aside = Vec::new(heap);
-    aside.resize(512, 0usize)?;
-    Ok(aside)
-}
 
 impl VersionStore for Roll {
     ghost meaning = { roll_meaning };
@@ -30,40 +21,23 @@ impl VersionStore for Roll {
         ensures value { IfOk result (λ s. roll_meaning s ≡ fresh) }
         ensures room { IfOk result (λ s. room 512 (roll_meaning s) ≡ 512) }
     {
-        let entries = Vec::with_capacity(heap, PLACES)?;
-        let aside = no_places_aside(heap)?;
         Ok(Roll {
-            entries,
-            aside,
+            entries: Vec::with_capacity(heap, PLACES)?,
+            aside: vec![in heap; 0usize; 512]?,
             total: 0,
         })
     }
 
-    fn newest(&self, node: u8, key: u8) -> Option<(u64, TransactionNumber)> {
-        self.nth(node, key, 0)
-    }
-
+    #[tactic(auto, using(crate::proofs::Walk::nth_is), unfolding(crate::specs::Entries::entered))]
     fn nth(&self, node: u8, key: u8, steps: usize) -> Option<(u64, TransactionNumber)> {
         if node >= 8 || key >= 64 {
             return None;
         }
-        let mut left = steps;
-        for i in (0..self.entries.len()).rev() {
-            let entry = self.entries[i];
-            if entry.node == node && entry.key == key {
-                if left == 0 {
-                    return Some((entry.version.value, entry.version.writer));
-                }
-                left -= 1;
-            }
-        }
-        if left == 0 { Some((0, 0)) } else { None }
+        nth_version(&self.entries, node, key, steps).map(|version| version.into())
     }
 
     fn set_aside(&mut self, node: u8, key: u8) -> Result<(), StoreRefusal> {
-        let Some(had) = self.aside_at(node, key) else {
-            return Err(StoreRefusal);
-        };
+        let had = self.aside_at(node, key).ok_or(StoreRefusal)?;
         if self.places_left() == 0 {
             return Err(StoreRefusal);
         }
@@ -72,9 +46,7 @@ impl VersionStore for Roll {
     }
 
     fn give_back(&mut self, node: u8, key: u8) -> Result<(), StoreRefusal> {
-        let Some(had) = self.aside_at(node, key) else {
-            return Err(StoreRefusal);
-        };
+        let had = self.aside_at(node, key).ok_or(StoreRefusal)?;
         if had == 0 {
             return Err(StoreRefusal);
         }

@@ -5,12 +5,12 @@ use Rattle.roll.proofs.table.calls.RollVersionStore.new.Goals as goal
 
 pub invariant_of-result : goal.invariant_of-result
 invariant_of-result c =
-    let is = made_fresh c.in_ok-entries.entries.items c.in_ok-aside.aside.items c.in_ok-entries.ensures.items c.in_ok-aside.ensures.items in
-    let begun = c.in_ok-entries.ensures in
+    let begun = c.in_ok-with_capacity.ensures in
     let none = begun.len in
+    let is = made_fresh c.in_ok-with_capacity.field-0.items c.in_ok-vec.field-0.items begun.items (c.in_ok-vec.ensures.items_if_clones_equal (λ y e. e)) in
     record {
       roomy = begun.capacity;
-      whole = c.in_ok-aside.ensures.len;
+      whole = c.in_ok-vec.ensures.len;
       fits = omega (arith, none);
       counted = omega (arith, none, made_total stored refl _ is);
       summed = made_total set_aside refl _ is;
@@ -18,5 +18,5 @@ invariant_of-result c =
 
 pub returns : goal.returns
 returns c =
-    let is = made_fresh c.in_ok-entries.entries.items c.in_ok-aside.aside.items c.in_ok-entries.ensures.items c.in_ok-aside.ensures.items in
+    let is = made_fresh c.in_ok-with_capacity.field-0.items c.in_ok-vec.field-0.items c.in_ok-with_capacity.ensures.items (c.in_ok-vec.ensures.items_if_clones_equal (λ y e. e)) in
     record { value = is; room = room_of _ 0 0 (made_total stored refl _ is) (made_total set_aside refl _ is) }

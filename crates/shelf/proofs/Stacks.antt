@@ -1,13 +1,8 @@
--- Lemmas on the places of one chain.
-use Rattle.std.specs.Prelude.{◌≡◌, ℕ, zero, suc, ◌+◌, ◌-◌, ◌<◌, ◌≤◌, ◌≢◌, List, ◌∷◌, length, Some, None, slice_index_or, slice_set, refl}
-use Rattle.std.proofs.Common.{◌∙◌, ap, arith, add-one, get_or-set_same, get_or-set_other}
+-- The versions of one chain, read and put.
+use Rattle.std.proofs.Common.{◌≡◌, ℕ, zero, suc, ◌+◌, ◌-◌, ◌<◌, ◌≤◌, ◌≢◌, List, ◌∷◌, length, Some, None, slice_index_or, slice_set, refl, ◌∙◌, ap, arith, add-one, get_or-set_same, get_or-set_other}
 use Rattle.store.specs.declared.Version.{Version}
 use Rattle.store.specs.Model.{nth_of, first_version}
 use Rattle.shelf.specs.Slots.{newest_first}
-
-pub stack_length : (ps : List Version) (n : ℕ) → length (newest_first ps n) ≡ n + 1
-stack_length ps zero = refl
-stack_length ps (suc n) = let h = stack_length ps n in omega arith
 
 abbrev pair_of : Version → ℕ × ℕ
 pair_of v = (v.value, v.writer)
