@@ -29,9 +29,6 @@ loop-at-smaller c =
     let behind = beyond tape at c.loop-at-test.true in
     omega (arith, next, behind.0)
 
-pub loop-at-init : goal.loop-at-init
-loop-at-init c = ap (λ xs. map entry_of xs ++ rest_from c.args.tape.now 0) c.new-records.ensures.items
-
 pub returns : goal.returns
 returns c =
     let done = map entry_of (vec_items c.loop-at.records) in
