@@ -1,5 +1,5 @@
 -- The record at a place, case by case.
-use Rattle.std.proofs.Common.{◌≡◌, ℕ, zero, suc, ◌+◌, ◌<◌, ◌≤◌, cond, eqb, ltb, List, [], ◌∷◌, ◌++◌, length, Err, sym, refl, ap, ◌∙◌, ⊎_elim, append_assoc, arith}
+use Rattle.std.proofs.Common.{◌≡◌, ℕ, zero, suc, ◌+◌, ◌<◌, ◌≤◌, cond, nat_eq, nat_lt, List, [], ◌∷◌, ◌++◌, length, Err, sym, refl, ap, ◌∙◌, ⊎_elim, append_assoc, arith}
 use Rattle.std.specs.List.{between}
 use Rattle.std.proofs.lemmas.Bool.{lt-ltb, le-ltb, eq-eqb, ltb-false, cases_lt, cond-true, cond-false, cond_both}
 use Rattle.calls.specs.declared.refusal.Refusal.TheVariants.{BadRecord}
@@ -7,12 +7,12 @@ use Rattle.tape.specs.Layout.{number_in}
 use Rattle.tape.specs.Reading.{Content, Entry, of_length, decode, cut, framed, record_at, records_from}
 
 pub fitting : (n : ℕ) (body : List ℕ) (content : Content) → length body ≡ n → of_length n body content ≡ content
-fitting n body content e = cond-true (eqb (length body) n) content (Err BadRecord) (eq-eqb (length body) n e)
+fitting n body content e = cond-true (nat_eq (length body) n) content (Err BadRecord) (eq-eqb (length body) n e)
 
 -- the length bytes are there, and say len
 pub measured : (tape : List ℕ) (at len : ℕ) → at + 2 ≤ length tape → number_in 2 tape at ≡ len → record_at tape at ≡ framed tape at len
 measured tape at len h e =
-    cond-false (ltb (length tape) (at + 2)) (cut tape) (framed tape at (number_in 2 tape at)) (le-ltb (length tape) (at + 2) h)
+    cond-false (nat_lt (length tape) (at + 2)) (cut tape) (framed tape at (number_in 2 tape at)) (le-ltb (length tape) (at + 2) h)
     ∙ ap (framed tape at) e
 
 -- the record is there, and has a kind
@@ -23,10 +23,10 @@ whole tape at len kind e k h l =
     let found : Content → Content × ℕ = λ x. (x, at + 2 + len) in
     let body = between (at + 4) (at + 2 + len) tape in
     let content = decode (number_in 2 tape (at + 2)) body in
-    let short = cond (ltb len 2) (found (Err BadRecord)) (found content) in
+    let short = cond (nat_lt len 2) (found (Err BadRecord)) (found content) in
     measured tape at len (omega arith) e
-    ∙ cond-false (ltb (length tape) (at + 2 + len)) (cut tape) short (le-ltb (length tape) (at + 2 + len) h)
-    ∙ cond-false (ltb len 2) (found (Err BadRecord)) (found content) (le-ltb len 2 l)
+    ∙ cond-false (nat_lt (length tape) (at + 2 + len)) (cut tape) short (le-ltb (length tape) (at + 2 + len) h)
+    ∙ cond-false (nat_lt len 2) (found (Err BadRecord)) (found content) (le-ltb len 2 l)
     ∙ ap (λ n. found (decode n body)) k
 
 -- the place behind a record is behind it, and in the tape or at its end
@@ -37,21 +37,21 @@ beyond tape at h =
     let found : Content → Content × ℕ = λ x. (x, at + 2 + len) in
     let content = decode (number_in 2 tape (at + 2)) (between (at + 4) (at + 2 + len) tape) in
     let ended : Inside (cut tape) = (h, omega arith) in
-    cond_both (ltb (length tape) (at + 2)) (cut tape) (framed tape at len) Inside (λ _. ended)
-    (λ _. cond_both (ltb (length tape) (at + 2 + len)) (cut tape) (cond (ltb len 2) (found (Err BadRecord)) (found content)) Inside (λ _. ended)
+    cond_both (nat_lt (length tape) (at + 2)) (cut tape) (framed tape at len) Inside (λ _. ended)
+    (λ _. cond_both (nat_lt (length tape) (at + 2 + len)) (cut tape) (cond (nat_lt len 2) (found (Err BadRecord)) (found content)) Inside (λ _. ended)
     (λ e. let fits : at + 2 + len ≤ length tape = ltb-false (length tape) (at + 2 + len) e in
-    cond_both (ltb len 2) (found (Err BadRecord)) (found content) Inside (λ _. (omega arith, fits)) (λ _. (omega arith, fits))))
+    cond_both (nat_lt len 2) (found (Err BadRecord)) (found content) Inside (λ _. (omega arith, fits)) (λ _. (omega arith, fits))))
 
 -- the records from a place inside the tape are the one there and those behind it
 pub one_more : (most : ℕ) (tape : List ℕ) (at : ℕ) → at < length tape
     → records_from (suc most) tape at ≡ (at, (record_at tape at).0) ∷ records_from most tape (record_at tape at).1
 one_more most tape at h =
-    cond-true (ltb at (length tape)) ((at, (record_at tape at).0) ∷ records_from most tape (record_at tape at).1) [] (lt-ltb at (length tape) h)
+    cond-true (nat_lt at (length tape)) ((at, (record_at tape at).0) ∷ records_from most tape (record_at tape at).1) [] (lt-ltb at (length tape) h)
 
 pub none_left : (most : ℕ) (tape : List ℕ) (at : ℕ) → length tape ≤ at → records_from most tape at ≡ []
 none_left zero tape at h = refl
 none_left (suc most) tape at h =
-    cond-false (ltb at (length tape)) ((at, (record_at tape at).0) ∷ records_from most tape (record_at tape at).1) [] (le-ltb at (length tape) h)
+    cond-false (nat_lt at (length tape)) ((at, (record_at tape at).0) ∷ records_from most tape (record_at tape at).1) [] (le-ltb at (length tape) h)
 
 -- as many records as there are bytes left are enough
 pub enough : (m n : ℕ) (tape : List ℕ) (at : ℕ) → length tape ≤ at + m → length tape ≤ at + n → records_from m tape at ≡ records_from n tape at

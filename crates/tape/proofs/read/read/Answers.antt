@@ -1,4 +1,4 @@
-use Rattle.std.proofs.Common.{◌≡◌, ℕ, ltb, [], ◌∷◌, ◌++◌, map, length, Err, vec_items, sym, ap, ◌∙◌, subst, append-nil, arith, rules}
+use Rattle.std.proofs.Common.{◌≡◌, ℕ, nat_lt, [], ◌∷◌, ◌++◌, map, length, Err, vec_items, sym, ap, ◌∙◌, subst, append-nil, arith, rules}
 use Rattle.std.proofs.lemmas.List.{map_push}
 use Rattle.std.proofs.lemmas.Bool.{le-ltb, cond-false}
 use Rattle.calls.specs.declared.refusal.Refusal.TheVariants.{UnreadableTape}
@@ -37,7 +37,7 @@ returns c =
     sym (append-nil done)
     ∙ ap (λ rest. done ++ rest) (sym (rest_none tape c.loop-at.at c.loop-at-test.false))
     ∙ c.loop-at.invariant
-    ∙ sym (cond-false (ltb 32768 (length tape)) ((0, Err UnreadableTape) ∷ []) (rest_from tape 0) (le-ltb 32768 (length tape) (omega arith))) in
+    ∙ sym (cond-false (nat_lt 32768 (length tape)) ((0, Err UnreadableTape) ∷ []) (rest_from tape 0) (le-ltb 32768 (length tape) (omega arith))) in
     record {
       records = all;
       laid_out = subst (λ entries. LaidOut entries tape) (sym all) (lays_out_again tape (λ i. omega (arith, (c.type_inv.tape i).fits)));
