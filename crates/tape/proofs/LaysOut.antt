@@ -1,16 +1,16 @@
 -- A tape of which no record is refused holds the bytes that are written for the requests read from it.
-use Rattle.std.proofs.Common.{◌≡◌, ℕ, zero, suc, ◌+◌, ◌-◌, ◌≤◌, true, cond, nat_eq, nat_lt, List, [], ◌∷◌, ◌++◌, length, slice_index_or, take, drop, is_ok, Ok, Err, sym, refl, ap, ◌∙◌, subst, ⊎_elim, append-nil, arith}
+use Rattle.std.proofs.Common.{◌≡◌, ℕ, zero, suc, ◌+◌, ◌-◌, ◌≤◌, true, if◌then◌else◌, nat_eq, nat_lt, List, [], ◌∷◌, ◌++◌, length, slice_index_or, take, drop, is_ok, Ok, Err, sym, refl, ap, ◌∙◌, subst, ⊎_elim, append-nil, arith}
 use Rattle.std.specs.List.{between}
 use Rattle.std.proofs.lemmas.List.{length-take-le, take_all, length-drop, take-append-drop, drop-drop, drop_all, get_or-take, get_or-drop, get_or_past, length-take}
-use Rattle.std.proofs.lemmas.Bool.{ltb-false, eqb-true, eq-eqb, and_parts, and_from, cases_lt, false≢true, cond_both}
+use Rattle.std.proofs.lemmas.Bool.{eqb-true, eq-eqb, and_parts, and_from, cases_lt, false≢true, cond_both}
 use Rattle.calls.specs.declared.refusal.Refusal.TheVariants.{UnreadableTape, BadRecord}
 use Rattle.calls.specs.Requests.{Request, make, begin, read, write, offer, prepare, decide, cancel, learn, apply, finish}
 use Rattle.tape.specs.Layout.{bytes_of, number_in, kind, body, record_of, tape_of}
-use Rattle.tape.specs.Reading.{Content, Entry, of_length, make_in, begin_in, read_in, write_in, offer_in, prepare_in, decide_in, cancel_in, learn_in, apply_in, finish_in, decode as decoded, cut, framed, record_at, records_from}
+use Rattle.tape.specs.Reading.{Content, Entry, of_length, make_in, begin_in, read_in, write_in, offer_in, prepare_in, decide_in, cancel_in, learn_in, apply_in, finish_in, decode as decoded, record_at, records_from}
 use Rattle.tape.specs.Writing.{writable, all_writable}
 use Rattle.tape.specs.Trips.{Bytes, said, requests_in, none_refused, LaysOutAgain}
 use Rattle.tape.proofs.Numbers.{listed, bytes_back, drop_listed}
-use Rattle.tape.proofs.Records.{beyond, one_more, none_left}
+use Rattle.tape.proofs.Records.{by_case, beyond, one_more, none_left}
 
 -- r is written as a record of kind k with the body bs
 abbrev SaidBy : ℕ → List ℕ → Request → Type 0
@@ -36,7 +36,7 @@ make_told bs = sized 0 (2 + slice_index_or bs 1 0) bs (Ok (make (slice_index_or 
     (λ e. (refl, sym (drop_listed 2 bs 0 (omega arith)), eq-eqb (length (drop 2 bs)) (slice_index_or bs 1 0) (omega (arith, length-drop 2 bs))))
 
 begin_told : (bs : List ℕ) → Tells 1 bs (begin_in bs)
-begin_told bs = sized 1 1 bs (cond (nat_lt (slice_index_or bs 0 0) 2) (Ok (begin (slice_index_or bs 0 0))) (Err BadRecord))
+begin_told bs = sized 1 1 bs (if nat_lt (slice_index_or bs 0 0) 2 then Ok (begin (slice_index_or bs 0 0)) else Err BadRecord)
     (λ e. cond_both (nat_lt (slice_index_or bs 0 0) 2) (Ok (begin (slice_index_or bs 0 0))) (Err BadRecord) (Tells 1 bs) (λ t. (refl, spelled 1 bs e, t)) (λ _. tt))
 
 -- a body of single bytes
@@ -57,7 +57,7 @@ write_told bs small =
     (refl, ap (λ xs. slice_index_or bs 0 0 ∷ slice_index_or bs 1 0 ∷ xs) value_laid ∙ sym (drop_listed 2 bs 0 (omega arith)), refl))
 
 -- one kind after another
-either : (k n : ℕ) (bs : List ℕ) (this others : Content) → Tells n bs this → Tells k bs others → Tells k bs (cond (nat_eq k n) this others)
+either : (k n : ℕ) (bs : List ℕ) (this others : Content) → Tells n bs this → Tells k bs others → Tells k bs (if nat_eq k n then this else others)
 either k n bs this others here there =
     cond_both (nat_eq k n) this others (Tells k bs) (λ e. subst (λ j. Tells j bs this) (sym (eqb-true k n e)) here) (λ _. there)
 
@@ -125,13 +125,9 @@ record_lies tape at small =
     let len = number_in 2 tape at in
     let kind' = number_in 2 tape (at + 2) in
     let bs = between (at + 4) (at + 2 + len) tape in
-    let Right : Content × ℕ → Type 0 = λ x. Lies tape at x.0 x.1 in
-    let found : Content → Content × ℕ = λ x. (x, at + 2 + len) in
     let bs_small : Bytes bs = part_bytes tape (at + 4) (at + 2 + len - (at + 4)) small in
-    cond_both (nat_lt (length tape) (at + 2)) (cut tape) (framed tape at len) Right (λ _. tt)
-    (λ _. cond_both (nat_lt (length tape) (at + 2 + len)) (cut tape) (cond (nat_lt len 2) (found (Err BadRecord)) (found (decoded kind' bs))) Right (λ _. tt)
-    (λ room. cond_both (nat_lt len 2) (found (Err BadRecord)) (found (decoded kind' bs)) Right (λ _. tt)
-    (λ long. lies tape at len small refl (ltb-false (length tape) (at + 2 + len) room) (ltb-false len 2 long) (decoded kind' bs) (told kind' bs bs_small))))
+    by_case tape at (λ x. Lies tape at x.0 x.1) tt (λ _. tt)
+    (λ room long. lies tape at len small refl room long (decoded kind' bs) (told kind' bs bs_small))
 
 -- some entries hold the requests of the tape from a place on
 abbrev Covers : List ℕ → ℕ → List Request → Type 0

@@ -1,5 +1,5 @@
 -- The record at a place, case by case.
-use Rattle.std.proofs.Common.{◌≡◌, ℕ, zero, suc, ◌+◌, ◌<◌, ◌≤◌, cond, nat_eq, nat_lt, List, [], ◌∷◌, ◌++◌, length, Err, sym, refl, ap, ◌∙◌, ⊎_elim, append_assoc, arith}
+use Rattle.std.proofs.Common.{◌≡◌, ℕ, zero, suc, ◌+◌, ◌<◌, ◌≤◌, if◌then◌else◌, nat_eq, nat_lt, List, [], ◌∷◌, ◌++◌, length, Err, sym, refl, ap, ◌∙◌, ⊎_elim, append_assoc, arith}
 use Rattle.std.specs.List.{between}
 use Rattle.std.proofs.lemmas.Bool.{lt-ltb, le-ltb, eq-eqb, ltb-false, cases_lt, cond-true, cond-false, cond_both}
 use Rattle.calls.specs.declared.refusal.Refusal.TheVariants.{BadRecord}
@@ -23,24 +23,32 @@ whole tape at len kind e k h l =
     let found : Content → Content × ℕ = λ x. (x, at + 2 + len) in
     let body = between (at + 4) (at + 2 + len) tape in
     let content = decode (number_in 2 tape (at + 2)) body in
-    let short = cond (nat_lt len 2) (found (Err BadRecord)) (found content) in
+    let short = if nat_lt len 2 then found (Err BadRecord) else found content in
     measured tape at len (omega arith) e
     ∙ cond-false (nat_lt (length tape) (at + 2 + len)) (cut tape) short (le-ltb (length tape) (at + 2 + len) h)
     ∙ cond-false (nat_lt len 2) (found (Err BadRecord)) (found content) (le-ltb len 2 l)
     ∙ ap (λ n. found (decode n body)) k
 
+-- what holds of a record that is cut, of one too short for a kind and of one that is read holds of the record at a place
+pub by_case : (tape : List ℕ) (at : ℕ) (P : Content × ℕ → Type 0) → P (cut tape)
+    → (at + 2 + number_in 2 tape at ≤ length tape → P (Err BadRecord, at + 2 + number_in 2 tape at))
+    → (at + 2 + number_in 2 tape at ≤ length tape → 2 ≤ number_in 2 tape at
+    → P (decode (number_in 2 tape (at + 2)) (between (at + 4) (at + 2 + number_in 2 tape at) tape), at + 2 + number_in 2 tape at))
+    → P (record_at tape at)
+by_case tape at P ended short read =
+    let len = number_in 2 tape at in
+    let found : Content → Content × ℕ = λ x. (x, at + 2 + len) in
+    let content = decode (number_in 2 tape (at + 2)) (between (at + 4) (at + 2 + len) tape) in
+    let judged = if nat_lt len 2 then found (Err BadRecord) else found content in
+    cond_both (nat_lt (length tape) (at + 2)) (cut tape) (framed tape at len) P (λ _. ended)
+    (λ _. cond_both (nat_lt (length tape) (at + 2 + len)) (cut tape) judged P (λ _. ended)
+    (λ e. let fits = ltb-false (length tape) (at + 2 + len) e in
+    cond_both (nat_lt len 2) (found (Err BadRecord)) (found content) P (λ _. short fits) (λ l. read fits (ltb-false len 2 l))))
+
 -- the place behind a record is behind it, and in the tape or at its end
 pub beyond : (tape : List ℕ) (at : ℕ) → at < length tape → (at < (record_at tape at).1) × ((record_at tape at).1 ≤ length tape)
 beyond tape at h =
-    let len = number_in 2 tape at in
-    let Inside : Content × ℕ → Type 0 = λ x. (at < x.1) × (x.1 ≤ length tape) in
-    let found : Content → Content × ℕ = λ x. (x, at + 2 + len) in
-    let content = decode (number_in 2 tape (at + 2)) (between (at + 4) (at + 2 + len) tape) in
-    let ended : Inside (cut tape) = (h, omega arith) in
-    cond_both (nat_lt (length tape) (at + 2)) (cut tape) (framed tape at len) Inside (λ _. ended)
-    (λ _. cond_both (nat_lt (length tape) (at + 2 + len)) (cut tape) (cond (nat_lt len 2) (found (Err BadRecord)) (found content)) Inside (λ _. ended)
-    (λ e. let fits : at + 2 + len ≤ length tape = ltb-false (length tape) (at + 2 + len) e in
-    cond_both (nat_lt len 2) (found (Err BadRecord)) (found content) Inside (λ _. (omega arith, fits)) (λ _. (omega arith, fits))))
+    by_case tape at (λ x. (at < x.1) × (x.1 ≤ length tape)) (h, omega arith) (λ fits. (omega arith, fits)) (λ fits long. (omega arith, fits))
 
 -- the records from a place inside the tape are the one there and those behind it
 pub one_more : (most : ℕ) (tape : List ℕ) (at : ℕ) → at < length tape
