@@ -1,4 +1,4 @@
-use Rattle.std.proofs.Common.{◌≡◌, ℕ, ◌+◌, ◌-◌, ◌<◌, List, [], ◌∷◌, map, get_or, sym, refl, ap, ◌∙◌, arith, lit<}
+use Rattle.std.proofs.Common.{◌≡◌, ℕ, ◌+◌, ◌-◌, ◌<◌, List, [], ◌∷◌, map, slice_index_or, sym, refl, ap, ◌∙◌, arith, lit<}
 use Rattle.std.specs.List.{range_with_len}
 use Rattle.std.proofs.lemmas.List.FromFn.{get_or-range_with_len}
 use Rattle.std.proofs.lemmas.List.{get_or-map}
@@ -16,7 +16,7 @@ ranked =
     ∷ NotLearned ∷ []
 
 abbrev at : ℕ → Refusal
-at i = get_or ranked i MakeOutOfBounds
+at i = slice_index_or ranked i MakeOutOfBounds
 
 -- each refusal stands in that list one place below its number
 standing : (a : Refusal) → (i : ℕ) × (i < 21) × (at i ≡ a) × (number a ≡ i + 1)
@@ -46,7 +46,7 @@ in_order : map number ranked ≡ range_with_len 1 21
 in_order = refl
 
 number_at : (i : ℕ) → i < 21 → number (at i) ≡ 1 + i
-number_at i h = sym (get_or-map number ranked i MakeOutOfBounds 0 h) ∙ ap (λ xs. get_or xs i 0) in_order ∙ get_or-range_with_len 1 21 i 0 h
+number_at i h = sym (get_or-map number ranked i MakeOutOfBounds 0 h) ∙ ap (λ xs. slice_index_or xs i 0) in_order ∙ get_or-range_with_len 1 21 i 0 h
 
 pub numbers_pair_off : NumbersPairOff
 numbers_pair_off = record {

@@ -14,9 +14,7 @@ impl fmt::Display for Line {
     ghost output = { λ l. Some (line l) };
 
     fn fmt<W: fmt::Write>(&self, f: &mut fmt::Formatter<W>) -> fmt::Result {
-        let place = self.place;
-        let answer = self.answer;
-        write!(f, "{place} {answer}\n")
+        writeln!(f, "{} {}", self.place, self.answer)
     }
 }
 
@@ -25,11 +23,8 @@ pub fn listing_of(heap: Global, lines: &[Line]) -> Result<String, AllocError>
     ensures { IfOk result (λ s. string_bytes s ≡ text_of lines.now) }
 {
     let mut text = String::new(heap);
-    for next in lines {
-        match text.write(*next) {
-            Ok(()) => {}
-            Err(_) => return Err(AllocError),
-        }
+    for line in lines {
+        write!(text, "{line}")?;
     }
     Ok(text)
 }

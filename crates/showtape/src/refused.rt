@@ -10,10 +10,7 @@ fn show_written(rt: &HostRuntime, title: &str, calls: &[Call<'_>]) -> anyhow::Re
     let bytes = Spaced(&buffer);
     match answer {
         Ok(len) => println!(rt; "{len} bytes:{bytes}")?,
-        Err(refusal) => {
-            let number = refusal.number();
-            println!(rt; "refused {number}:{bytes}")?;
-        }
+        Err(refusal) => println!(rt; "{refusal}:{bytes}")?,
     }
     Ok(())
 }

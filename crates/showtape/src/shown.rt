@@ -25,10 +25,7 @@ impl fmt::Display for Shown<'_> {
                 nodes,
                 keys,
                 placement,
-            } => {
-                let placement = Spaced(placement);
-                write!(f, "make {nodes} {keys}:{placement}")
-            }
+            } => write!(f, "make {nodes} {keys}:{}", Spaced(placement)),
             Call::Begin { mode } => write!(f, "begin {mode}"),
             Call::Read {
                 transaction,

@@ -1,16 +1,16 @@
 -- A tape of which no record is refused holds the bytes that are written for the requests read from it.
-use Rattle.std.proofs.Common.{◌≡◌, ℕ, zero, suc, ◌+◌, ◌-◌, ◌≤◌, true, cond, eqb, ltb, List, [], ◌∷◌, ◌++◌, length, get_or, take, drop, is_ok, Ok, Err, sym, refl, ap, ◌∙◌, subst, ⊎_elim, append-nil, arith}
+use Rattle.std.proofs.Common.{◌≡◌, ℕ, zero, suc, ◌+◌, ◌-◌, ◌≤◌, true, if◌then◌else◌, nat_eq, nat_lt, List, [], ◌∷◌, ◌++◌, length, slice_index_or, take, drop, is_ok, Ok, Err, sym, refl, ap, ◌∙◌, subst, ⊎_elim, append-nil, arith}
 use Rattle.std.specs.List.{between}
 use Rattle.std.proofs.lemmas.List.{length-take-le, take_all, length-drop, take-append-drop, drop-drop, drop_all, get_or-take, get_or-drop, get_or_past, length-take}
-use Rattle.std.proofs.lemmas.Bool.{ltb-false, eqb-true, eq-eqb, and_parts, and_from, cases_lt, false≢true, cond_both}
+use Rattle.std.proofs.lemmas.Bool.{eqb-true, eq-eqb, and_parts, and_from, cases_lt, false≢true, cond_both}
 use Rattle.calls.specs.declared.refusal.Refusal.TheVariants.{UnreadableTape, BadRecord}
 use Rattle.calls.specs.Requests.{Request, make, begin, read, write, offer, prepare, decide, cancel, learn, apply, finish}
 use Rattle.tape.specs.Layout.{bytes_of, number_in, kind, body, record_of, tape_of}
-use Rattle.tape.specs.Reading.{Content, Entry, of_length, make_in, begin_in, read_in, write_in, offer_in, prepare_in, decide_in, cancel_in, learn_in, apply_in, finish_in, decode as decoded, cut, framed, record_at, records_from}
+use Rattle.tape.specs.Reading.{Content, Entry, of_length, make_in, begin_in, read_in, write_in, offer_in, prepare_in, decide_in, cancel_in, learn_in, apply_in, finish_in, decode as decoded, record_at, records_from}
 use Rattle.tape.specs.Writing.{writable, all_writable}
 use Rattle.tape.specs.Trips.{Bytes, said, requests_in, none_refused, LaysOutAgain}
 use Rattle.tape.proofs.Numbers.{listed, bytes_back, drop_listed}
-use Rattle.tape.proofs.Records.{beyond, one_more, none_left}
+use Rattle.tape.proofs.Records.{by_case, beyond, one_more, none_left}
 
 -- r is written as a record of kind k with the body bs
 abbrev SaidBy : ℕ → List ℕ → Request → Type 0
@@ -29,15 +29,15 @@ spelled n bs e =
     ∙ sym (drop_listed n bs 0 (omega arith))
 
 sized : (k n : ℕ) (bs : List ℕ) (content : Content) → (length bs ≡ n → Tells k bs content) → Tells k bs (of_length n bs content)
-sized k n bs content f = cond_both (eqb (length bs) n) content (Err BadRecord) (Tells k bs) (λ e. f (eqb-true (length bs) n e)) (λ _. tt)
+sized k n bs content f = cond_both (nat_eq (length bs) n) content (Err BadRecord) (Tells k bs) (λ e. f (eqb-true (length bs) n e)) (λ _. tt)
 
 make_told : (bs : List ℕ) → Tells 0 bs (make_in bs)
-make_told bs = sized 0 (2 + get_or bs 1 0) bs (Ok (make (get_or bs 0 0) (get_or bs 1 0) (drop 2 bs)))
-    (λ e. (refl, sym (drop_listed 2 bs 0 (omega arith)), eq-eqb (length (drop 2 bs)) (get_or bs 1 0) (omega (arith, length-drop 2 bs))))
+make_told bs = sized 0 (2 + slice_index_or bs 1 0) bs (Ok (make (slice_index_or bs 0 0) (slice_index_or bs 1 0) (drop 2 bs)))
+    (λ e. (refl, sym (drop_listed 2 bs 0 (omega arith)), eq-eqb (length (drop 2 bs)) (slice_index_or bs 1 0) (omega (arith, length-drop 2 bs))))
 
 begin_told : (bs : List ℕ) → Tells 1 bs (begin_in bs)
-begin_told bs = sized 1 1 bs (cond (ltb (get_or bs 0 0) 2) (Ok (begin (get_or bs 0 0))) (Err BadRecord))
-    (λ e. cond_both (ltb (get_or bs 0 0) 2) (Ok (begin (get_or bs 0 0))) (Err BadRecord) (Tells 1 bs) (λ t. (refl, spelled 1 bs e, t)) (λ _. tt))
+begin_told bs = sized 1 1 bs (if nat_lt (slice_index_or bs 0 0) 2 then Ok (begin (slice_index_or bs 0 0)) else Err BadRecord)
+    (λ e. cond_both (nat_lt (slice_index_or bs 0 0) 2) (Ok (begin (slice_index_or bs 0 0))) (Err BadRecord) (Tells 1 bs) (λ t. (refl, spelled 1 bs e, t)) (λ _. tt))
 
 -- a body of single bytes
 plain : (k n : ℕ) (bs : List ℕ) (r : Request) → kind r ≡ k → writable r ≡ true → body r ≡ listed n bs 0 → Tells k bs (of_length n bs (Ok r))
@@ -46,7 +46,7 @@ plain k n bs r e w q = sized k n bs (Ok r) (λ long. (e, q ∙ spelled n bs long
 write_told : (bs : List ℕ) → Bytes bs → Tells 3 bs (write_in bs)
 write_told bs small =
     let value = number_in 8 (between 2 10 bs) 0 in
-    sized 3 10 bs (Ok (write (get_or bs 0 0) (get_or bs 1 0) value))
+    sized 3 10 bs (Ok (write (slice_index_or bs 0 0) (slice_index_or bs 1 0) value))
     (λ e.
     let rest = drop 2 bs in
     let long : length rest ≡ 8 = omega (arith, length-drop 2 bs) in
@@ -54,27 +54,27 @@ write_told bs small =
     let rest_small : Bytes rest = λ i. omega (arith, small (2 + i), get_or-drop 2 bs i 0) in
     let value_laid : bytes_of 8 value ≡ rest =
     ap (λ xs. bytes_of 8 (number_in 8 xs 0)) part ∙ bytes_back 8 rest 0 rest_small ∙ spelled 8 rest long in
-    (refl, ap (λ xs. get_or bs 0 0 ∷ get_or bs 1 0 ∷ xs) value_laid ∙ sym (drop_listed 2 bs 0 (omega arith)), refl))
+    (refl, ap (λ xs. slice_index_or bs 0 0 ∷ slice_index_or bs 1 0 ∷ xs) value_laid ∙ sym (drop_listed 2 bs 0 (omega arith)), refl))
 
 -- one kind after another
-either : (k n : ℕ) (bs : List ℕ) (this others : Content) → Tells n bs this → Tells k bs others → Tells k bs (cond (eqb k n) this others)
+either : (k n : ℕ) (bs : List ℕ) (this others : Content) → Tells n bs this → Tells k bs others → Tells k bs (if nat_eq k n then this else others)
 either k n bs this others here there =
-    cond_both (eqb k n) this others (Tells k bs) (λ e. subst (λ j. Tells j bs this) (sym (eqb-true k n e)) here) (λ _. there)
+    cond_both (nat_eq k n) this others (Tells k bs) (λ e. subst (λ j. Tells j bs this) (sym (eqb-true k n e)) here) (λ _. there)
 
 -- what a body says under a kind is written with that kind and that body
 told : (k : ℕ) (bs : List ℕ) → Bytes bs → Tells k bs (decoded k bs)
 told k bs small =
     either k 0 bs (make_in bs) _ (make_told bs)
     (either k 1 bs (begin_in bs) _ (begin_told bs)
-    (either k 2 bs (read_in bs) _ (plain 2 3 bs (read (get_or bs 0 0) (get_or bs 1 0) (get_or bs 2 0)) refl refl refl)
+    (either k 2 bs (read_in bs) _ (plain 2 3 bs (read (slice_index_or bs 0 0) (slice_index_or bs 1 0) (slice_index_or bs 2 0)) refl refl refl)
     (either k 3 bs (write_in bs) _ (write_told bs small)
-    (either k 4 bs (offer_in bs) _ (plain 4 1 bs (offer (get_or bs 0 0)) refl refl refl)
-    (either k 5 bs (prepare_in bs) _ (plain 5 2 bs (prepare (get_or bs 0 0) (get_or bs 1 0)) refl refl refl)
-    (either k 6 bs (decide_in bs) _ (plain 6 1 bs (decide (get_or bs 0 0)) refl refl refl)
-    (either k 7 bs (cancel_in bs) _ (plain 7 1 bs (cancel (get_or bs 0 0)) refl refl refl)
-    (either k 8 bs (learn_in bs) _ (plain 8 2 bs (learn (get_or bs 0 0) (get_or bs 1 0)) refl refl refl)
-    (either k 9 bs (apply_in bs) _ (plain 9 1 bs (apply (get_or bs 0 0)) refl refl refl)
-    (either k 10 bs (finish_in bs) (Err BadRecord) (plain 10 1 bs (finish (get_or bs 0 0)) refl refl refl)
+    (either k 4 bs (offer_in bs) _ (plain 4 1 bs (offer (slice_index_or bs 0 0)) refl refl refl)
+    (either k 5 bs (prepare_in bs) _ (plain 5 2 bs (prepare (slice_index_or bs 0 0) (slice_index_or bs 1 0)) refl refl refl)
+    (either k 6 bs (decide_in bs) _ (plain 6 1 bs (decide (slice_index_or bs 0 0)) refl refl refl)
+    (either k 7 bs (cancel_in bs) _ (plain 7 1 bs (cancel (slice_index_or bs 0 0)) refl refl refl)
+    (either k 8 bs (learn_in bs) _ (plain 8 2 bs (learn (slice_index_or bs 0 0) (slice_index_or bs 1 0)) refl refl refl)
+    (either k 9 bs (apply_in bs) _ (plain 9 1 bs (apply (slice_index_or bs 0 0)) refl refl refl)
+    (either k 10 bs (finish_in bs) (Err BadRecord) (plain 10 1 bs (finish (slice_index_or bs 0 0)) refl refl refl)
     tt))))))))))
 
 -- where a content is a request, its record and then the tape from `next` on are the tape from `at` on
@@ -125,13 +125,9 @@ record_lies tape at small =
     let len = number_in 2 tape at in
     let kind' = number_in 2 tape (at + 2) in
     let bs = between (at + 4) (at + 2 + len) tape in
-    let Right : Content × ℕ → Type 0 = λ x. Lies tape at x.0 x.1 in
-    let found : Content → Content × ℕ = λ x. (x, at + 2 + len) in
     let bs_small : Bytes bs = part_bytes tape (at + 4) (at + 2 + len - (at + 4)) small in
-    cond_both (ltb (length tape) (at + 2)) (cut tape) (framed tape at len) Right (λ _. tt)
-    (λ _. cond_both (ltb (length tape) (at + 2 + len)) (cut tape) (cond (ltb len 2) (found (Err BadRecord)) (found (decoded kind' bs))) Right (λ _. tt)
-    (λ room. cond_both (ltb len 2) (found (Err BadRecord)) (found (decoded kind' bs)) Right (λ _. tt)
-    (λ long. lies tape at len small refl (ltb-false (length tape) (at + 2 + len) room) (ltb-false len 2 long) (decoded kind' bs) (told kind' bs bs_small))))
+    by_case tape at (λ x. Lies tape at x.0 x.1) tt (λ _. tt)
+    (λ room long. lies tape at len small refl room long (decoded kind' bs) (told kind' bs bs_small))
 
 -- some entries hold the requests of the tape from a place on
 abbrev Covers : List ℕ → ℕ → List Request → Type 0
@@ -162,6 +158,6 @@ lays_from (suc most) tape at small enough ok =
 pub lays_out_again : LaysOutAgain
 lays_out_again tape small =
     let Out : List Entry → Type 0 = λ es. none_refused es ≡ true → Covers tape 0 (requests_in es) in
-    cond_both (ltb 32768 (length tape)) ((0, Err UnreadableTape) ∷ []) (records_from (length tape) tape 0) Out
+    cond_both (nat_lt 32768 (length tape)) ((0, Err UnreadableTape) ∷ []) (records_from (length tape) tape 0) Out
     (λ _ ok. absurd (false≢true ok))
     (λ _ ok. lays_from (length tape) tape 0 small (omega arith) ok)

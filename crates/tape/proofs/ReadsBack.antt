@@ -1,5 +1,5 @@
 -- A tape that was written reads as the requests it was written from.
-use Rattle.std.proofs.Common.{◌≡◌, ℕ, ◌+◌, ◌-◌, ◌<◌, ◌≤◌, true, ltb, List, [], ◌∷◌, ◌++◌, length, take, Ok, Err, sym, refl, ap, ◌∙◌, append_assoc, append-nil, arith}
+use Rattle.std.proofs.Common.{◌≡◌, ℕ, ◌+◌, ◌-◌, ◌<◌, ◌≤◌, true, nat_lt, List, [], ◌∷◌, ◌++◌, length, take, Ok, Err, sym, refl, ap, ◌∙◌, append_assoc, append-nil, arith}
 use Rattle.std.specs.List.{between}
 use Rattle.std.proofs.lemmas.List.{length-append, take_at, drop_at}
 use Rattle.std.proofs.lemmas.Bool.{le-ltb, eqb-true, and_parts, cond-true, cond-false}
@@ -17,7 +17,7 @@ body_back : (r : Request) → Fit r → writable r ≡ true → decoded (kind r)
 body_back (make nodes keys placement) fit ok =
     let same = eqb-true (length placement) keys ok in
     fitting (2 + keys) (nodes ∷ keys ∷ placement) (Ok (make nodes keys placement)) (omega (arith, same))
-body_back (begin mode) fit ok = cond-true (ltb mode 2) (Ok (begin mode)) (Err BadRecord) ok
+body_back (begin mode) fit ok = cond-true (nat_lt mode 2) (Ok (begin mode)) (Err BadRecord) ok
 body_back (read t k p) fit ok = refl
 body_back (write t k value) fit ok = ap (λ v. Ok (write t k v)) (number_back 8 value [] [] (omega (arith, fit)))
 body_back (offer t) fit ok = refl
@@ -88,5 +88,5 @@ reads_back_from before (r ∷ rs) fit ok short =
 
 pub reads_back : ReadsBack
 reads_back rs fit ok short =
-    cond-false (ltb 32768 (length (tape_of rs))) ((0, Err UnreadableTape) ∷ []) (rest_from (tape_of rs) 0) (le-ltb 32768 (length (tape_of rs)) short)
+    cond-false (nat_lt 32768 (length (tape_of rs))) ((0, Err UnreadableTape) ∷ []) (rest_from (tape_of rs) 0) (le-ltb 32768 (length (tape_of rs)) short)
     ∙ reads_back_from [] rs fit ok short

@@ -1,5 +1,5 @@
 -- The record at a place, case by case.
-use Rattle.std.proofs.Common.{◌≡◌, ℕ, zero, suc, ◌+◌, ◌<◌, ◌≤◌, cond, eqb, ltb, List, [], ◌∷◌, ◌++◌, length, Err, sym, refl, ap, ◌∙◌, ⊎_elim, append_assoc, arith}
+use Rattle.std.proofs.Common.{◌≡◌, ℕ, zero, suc, ◌+◌, ◌<◌, ◌≤◌, if◌then◌else◌, nat_eq, nat_lt, List, [], ◌∷◌, ◌++◌, length, Err, sym, refl, ap, ◌∙◌, ⊎_elim, append_assoc, arith}
 use Rattle.std.specs.List.{between}
 use Rattle.std.proofs.lemmas.Bool.{lt-ltb, le-ltb, eq-eqb, ltb-false, cases_lt, cond-true, cond-false, cond_both}
 use Rattle.calls.specs.declared.refusal.Refusal.TheVariants.{BadRecord}
@@ -7,12 +7,12 @@ use Rattle.tape.specs.Layout.{number_in}
 use Rattle.tape.specs.Reading.{Content, Entry, of_length, decode, cut, framed, record_at, records_from}
 
 pub fitting : (n : ℕ) (body : List ℕ) (content : Content) → length body ≡ n → of_length n body content ≡ content
-fitting n body content e = cond-true (eqb (length body) n) content (Err BadRecord) (eq-eqb (length body) n e)
+fitting n body content e = cond-true (nat_eq (length body) n) content (Err BadRecord) (eq-eqb (length body) n e)
 
 -- the length bytes are there, and say len
 pub measured : (tape : List ℕ) (at len : ℕ) → at + 2 ≤ length tape → number_in 2 tape at ≡ len → record_at tape at ≡ framed tape at len
 measured tape at len h e =
-    cond-false (ltb (length tape) (at + 2)) (cut tape) (framed tape at (number_in 2 tape at)) (le-ltb (length tape) (at + 2) h)
+    cond-false (nat_lt (length tape) (at + 2)) (cut tape) (framed tape at (number_in 2 tape at)) (le-ltb (length tape) (at + 2) h)
     ∙ ap (framed tape at) e
 
 -- the record is there, and has a kind
@@ -23,35 +23,43 @@ whole tape at len kind e k h l =
     let found : Content → Content × ℕ = λ x. (x, at + 2 + len) in
     let body = between (at + 4) (at + 2 + len) tape in
     let content = decode (number_in 2 tape (at + 2)) body in
-    let short = cond (ltb len 2) (found (Err BadRecord)) (found content) in
+    let short = if nat_lt len 2 then found (Err BadRecord) else found content in
     measured tape at len (omega arith) e
-    ∙ cond-false (ltb (length tape) (at + 2 + len)) (cut tape) short (le-ltb (length tape) (at + 2 + len) h)
-    ∙ cond-false (ltb len 2) (found (Err BadRecord)) (found content) (le-ltb len 2 l)
+    ∙ cond-false (nat_lt (length tape) (at + 2 + len)) (cut tape) short (le-ltb (length tape) (at + 2 + len) h)
+    ∙ cond-false (nat_lt len 2) (found (Err BadRecord)) (found content) (le-ltb len 2 l)
     ∙ ap (λ n. found (decode n body)) k
+
+-- what holds of a record that is cut, of one too short for a kind and of one that is read holds of the record at a place
+pub by_case : (tape : List ℕ) (at : ℕ) (P : Content × ℕ → Type 0) → P (cut tape)
+    → (at + 2 + number_in 2 tape at ≤ length tape → P (Err BadRecord, at + 2 + number_in 2 tape at))
+    → (at + 2 + number_in 2 tape at ≤ length tape → 2 ≤ number_in 2 tape at
+    → P (decode (number_in 2 tape (at + 2)) (between (at + 4) (at + 2 + number_in 2 tape at) tape), at + 2 + number_in 2 tape at))
+    → P (record_at tape at)
+by_case tape at P ended short read =
+    let len = number_in 2 tape at in
+    let found : Content → Content × ℕ = λ x. (x, at + 2 + len) in
+    let content = decode (number_in 2 tape (at + 2)) (between (at + 4) (at + 2 + len) tape) in
+    let judged = if nat_lt len 2 then found (Err BadRecord) else found content in
+    cond_both (nat_lt (length tape) (at + 2)) (cut tape) (framed tape at len) P (λ _. ended)
+    (λ _. cond_both (nat_lt (length tape) (at + 2 + len)) (cut tape) judged P (λ _. ended)
+    (λ e. let fits = ltb-false (length tape) (at + 2 + len) e in
+    cond_both (nat_lt len 2) (found (Err BadRecord)) (found content) P (λ _. short fits) (λ l. read fits (ltb-false len 2 l))))
 
 -- the place behind a record is behind it, and in the tape or at its end
 pub beyond : (tape : List ℕ) (at : ℕ) → at < length tape → (at < (record_at tape at).1) × ((record_at tape at).1 ≤ length tape)
 beyond tape at h =
-    let len = number_in 2 tape at in
-    let Inside : Content × ℕ → Type 0 = λ x. (at < x.1) × (x.1 ≤ length tape) in
-    let found : Content → Content × ℕ = λ x. (x, at + 2 + len) in
-    let content = decode (number_in 2 tape (at + 2)) (between (at + 4) (at + 2 + len) tape) in
-    let ended : Inside (cut tape) = (h, omega arith) in
-    cond_both (ltb (length tape) (at + 2)) (cut tape) (framed tape at len) Inside (λ _. ended)
-    (λ _. cond_both (ltb (length tape) (at + 2 + len)) (cut tape) (cond (ltb len 2) (found (Err BadRecord)) (found content)) Inside (λ _. ended)
-    (λ e. let fits : at + 2 + len ≤ length tape = ltb-false (length tape) (at + 2 + len) e in
-    cond_both (ltb len 2) (found (Err BadRecord)) (found content) Inside (λ _. (omega arith, fits)) (λ _. (omega arith, fits))))
+    by_case tape at (λ x. (at < x.1) × (x.1 ≤ length tape)) (h, omega arith) (λ fits. (omega arith, fits)) (λ fits long. (omega arith, fits))
 
 -- the records from a place inside the tape are the one there and those behind it
 pub one_more : (most : ℕ) (tape : List ℕ) (at : ℕ) → at < length tape
     → records_from (suc most) tape at ≡ (at, (record_at tape at).0) ∷ records_from most tape (record_at tape at).1
 one_more most tape at h =
-    cond-true (ltb at (length tape)) ((at, (record_at tape at).0) ∷ records_from most tape (record_at tape at).1) [] (lt-ltb at (length tape) h)
+    cond-true (nat_lt at (length tape)) ((at, (record_at tape at).0) ∷ records_from most tape (record_at tape at).1) [] (lt-ltb at (length tape) h)
 
 pub none_left : (most : ℕ) (tape : List ℕ) (at : ℕ) → length tape ≤ at → records_from most tape at ≡ []
 none_left zero tape at h = refl
 none_left (suc most) tape at h =
-    cond-false (ltb at (length tape)) ((at, (record_at tape at).0) ∷ records_from most tape (record_at tape at).1) [] (le-ltb at (length tape) h)
+    cond-false (nat_lt at (length tape)) ((at, (record_at tape at).0) ∷ records_from most tape (record_at tape at).1) [] (le-ltb at (length tape) h)
 
 -- as many records as there are bytes left are enough
 pub enough : (m n : ℕ) (tape : List ℕ) (at : ℕ) → length tape ≤ at + m → length tape ≤ at + n → records_from m tape at ≡ records_from n tape at

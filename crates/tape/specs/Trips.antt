@@ -1,5 +1,6 @@
 -- What holds of every tape: no record is missed, reading undoes writing, and writing undoes reading.
-use Rattle.std.specs.Prelude.{◌≡◌, ℕ, ◌+◌, ◌^◌, ◌<◌, ◌≤◌, Bool, true, ◌&&◌, List, [], ◌∷◌, ◌++◌, length, is_ok, Ok, Err, slice_index}
+use Rattle.std.specs.Prelude.{◌≡◌, ℕ, ◌+◌, ◌^◌, ◌<◌, ◌≤◌, Bool, true, List, [], ◌∷◌, length, is_ok, Ok, Err, slice_index}
+use Rattle.std.specs.List.{flat_map, list_all}
 use Rattle.calls.specs.Requests.{Request, make, begin, read, write, offer, prepare, decide, cancel, learn, apply, finish}
 use Rattle.tape.specs.Layout.{longest, record_of, tape_of}
 use Rattle.tape.specs.Reading.{Content, Entry, records_from, read_tape}
@@ -42,12 +43,10 @@ said (Ok r) = r ∷ []
 said (Err refusal) = []
 
 abbrev pub requests_in : List Entry → List Request
-requests_in [] = []
-requests_in (e ∷ es) = said e.1 ++ requests_in es
+requests_in entries = flat_map (λ entry. said entry.1) entries
 
 abbrev pub none_refused : List Entry → Bool
-none_refused [] = true
-none_refused (e ∷ es) = is_ok e.1 && none_refused es
+none_refused entries = list_all (λ entry. is_ok entry.1) entries
 
 -- Every number of a list is a byte.
 abbrev pub Bytes : List ℕ → Type 0

@@ -1,5 +1,5 @@
 -- What a writer does with a list of requests.
-use Rattle.std.specs.Prelude.{ℕ, Bool, true, cond, ◌||◌, List, length, Ok, Err, Result, ◌==◌, nat_lt}
+use Rattle.std.specs.Prelude.{ℕ, Bool, true, if◌then◌else◌, ◌||◌, List, length, Ok, Err, Result, ◌==◌, nat_lt}
 use Rattle.std.specs.List.{list_all}
 use Rattle.std.proofs.Math.Seq.{paste}
 use Rattle.calls.specs.declared.refusal.Refusal.{Refusal}
@@ -31,9 +31,9 @@ over buffer at bytes = paste buffer at bytes (length bytes)
 -- What comes of writing the bytes of a tape into a buffer: the answer, and the buffer then. A tape that the buffer cannot take, or that is longer than a tape may be, is not written.
 abbrev pub laid : List ℕ → List ℕ → Result ℕ Refusal × List ℕ
 laid tape buffer =
-    cond (nat_lt (length buffer) (length tape) || nat_lt longest (length tape)) (Err TapeFull, buffer)
-    (Ok (length tape), over buffer 0 tape)
+    if nat_lt (length buffer) (length tape) || nat_lt longest (length tape) then (Err TapeFull, buffer)
+    else (Ok (length tape), over buffer 0 tape)
 
 -- The same of a list of requests. That each has a record is looked at first, for all of them.
 abbrev pub written : List Request → List ℕ → Result ℕ Refusal × List ℕ
-written rs buffer = cond (all_writable rs) (laid (tape_of rs) buffer) (Err BadRecord, buffer)
+written rs buffer = if all_writable rs then laid (tape_of rs) buffer else (Err BadRecord, buffer)

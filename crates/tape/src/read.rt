@@ -25,6 +25,7 @@ pub fn read(heap: Global, tape: &[u8]) -> Result<Vec<Record<'_>>, AllocError>
         })?;
         return Ok(records);
     }
+    // How long a record is says where the next begins, so this goes by places and not by items.
     let mut at = 0;
     while at < tape.len() {
         let (content, next) = record_at(tape, at);
@@ -39,18 +40,16 @@ fn record_at(tape: &[u8], at: usize) -> (Result<Call<'_>, Refusal>, usize)
     requires { at < length tape.now }
     ensures { (requested result.0, result.1) ≡ record_at tape.now at }
 {
-    let left = tape.len() - at;
-    if left < 2 {
+    let &[low, high, ref rest @ ..] = &tape[at..] else {
         return (Err(Refusal::UnreadableTape), tape.len());
-    }
-    let len = usize::from(u16::from_le_bytes([tape[at], tape[at + 1]]));
-    if left - 2 < len {
+    };
+    let len = usize::from(u16::from_le_bytes([low, high]));
+    let Some(record) = rest.get(..len) else {
         return (Err(Refusal::UnreadableTape), tape.len());
-    }
+    };
     let next = at + 2 + len;
-    if len < 2 {
+    let &[low, high, ref body @ ..] = record else {
         return (Err(Refusal::BadRecord), next);
-    }
-    let kind = u16::from_le_bytes([tape[at + 2], tape[at + 3]]);
-    (decode(kind, &tape[at + 4..next]), next)
+    };
+    (decode(u16::from_le_bytes([low, high]), body), next)
 }

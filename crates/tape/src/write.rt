@@ -1,8 +1,9 @@
 //! The writer of a tape.
 
-ghost use Rattle.std.specs.Prelude.{◌≡◌, ◌+◌, ◌^◌, ◌<◌, ◌≤◌, ◌∷◌, ◌++◌, map, length, take, IfOk, nat_le};
+ghost use Rattle.std.specs.Prelude.{◌≡◌, ◌+◌, ◌<◌, ◌≤◌, ◌++◌, map, length, take, IfOk, nat_le};
 ghost use Rattle.calls.specs.Requests.{request};
-ghost use Rattle.tape.specs.Layout.{bytes_of, longest, record_of, record_with, tape_of};
+ghost use Rattle.tape.specs.Kinds.{number_of};
+ghost use Rattle.tape.specs.Layout.{longest, record_of, record_with, tape_of};
 ghost use Rattle.tape.specs.Reading.{read_tape};
 ghost use Rattle.tape.specs.Trips.{Fit, AllFit, placed};
 ghost use Rattle.tape.specs.Writing.{writable, all_writable, over, written};
@@ -10,7 +11,6 @@ ghost use Rattle.tape.specs.Writing.{writable, all_writable, over, written};
 use crate::kinds::{MAX_TAPE, RecordKind};
 use calls::call::Call;
 use calls::refusal::Refusal;
-use calls::sizes::{KeyNumber, StoredValue, TransactionNumber};
 
 /// Writes the tape of some calls to the front of a buffer, and gives its length. A refusal leaves the buffer as it was.
 pub fn write(calls: &[Call<'_>], buffer: &mut [u8]) -> Result<usize, Refusal>
@@ -75,138 +75,86 @@ fn fits(calls: &[Call<'_>], room: usize) -> bool
         .is_some()
 }
 
-/// Writes some bytes from a place on, and gives the place behind them.
-fn put(buffer: &mut [u8], at: usize, bytes: &[u8]) -> usize
-    requires { at + length bytes.now ≤ length buffer.old }
-    ensures after { buffer.new ≡ over buffer.old at bytes.now }
-    ensures value { result ≡ at + length bytes.now }
-{
-    let end = at + bytes.len();
-    buffer[at..end].copy_from_slice(bytes);
-    end
+/// A buffer, and the place in it behind what is written.
+#[derive(Drop)]
+struct Cursor<'a> {
+    buffer: &'a mut [u8],
+    at: usize,
 }
 
-/// Writes a record whose body is some fields and, for a make, a placement.
-fn put_record(buffer: &mut [u8], at: usize, kind: u16, fields: &[u8], placement: &[u8]) -> usize
-    requires room { at + 4 + length fields.now + length placement.now ≤ length buffer.old }
-    requires short { 2 + length fields.now + length placement.now < 65536 }
-    ensures after { buffer.new ≡ over buffer.old at (record_with kind (fields.now ++ placement.now)) }
-    ensures value { result ≡ at + 4 + length fields.now + length placement.now }
-{
-    let len = (2 + fields.len() + placement.len()) as u16;
-    let kind_at = put(buffer, at, &len.to_le_bytes());
-    let body_at = put(buffer, kind_at, &kind.to_le_bytes());
-    let placement_at = put(buffer, body_at, fields);
-    put(buffer, placement_at, placement)
-}
-
-/// Writes the record of a call from a place on, and gives the place behind it.
-fn put_call(buffer: &mut [u8], at: usize, call: &Call<'_>) -> usize
-    requires short { length (record_of (request call.now)) ≤ longest }
-    requires room { at + length (record_of (request call.now)) ≤ length buffer.old }
-    ensures after { buffer.new ≡ over buffer.old at (record_of (request call.now)) }
-    ensures value { result ≡ at + length (record_of (request call.now)) }
-    ensures fit { Fit (request call.now) }
-{
-    match *call {
-        Call::Make {
-            nodes,
-            keys,
-            placement,
-        } => put_record(
-            buffer,
-            at,
-            RecordKind::Make as u16,
-            &[nodes, keys],
-            placement,
-        ),
-        Call::Begin { mode } => put_record(buffer, at, RecordKind::Begin as u16, &[mode], &[]),
-        Call::Read {
-            transaction,
-            key,
-            node,
-        } => put_record(
-            buffer,
-            at,
-            RecordKind::Read as u16,
-            &[transaction, key, node],
-            &[],
-        ),
-        Call::Write {
-            transaction,
-            key,
-            value,
-        } => put_record(
-            buffer,
-            at,
-            RecordKind::Write as u16,
-            &write_fields(transaction, key, value),
-            &[],
-        ),
-        Call::Offer { transaction } => put_record(
-            buffer,
-            at,
-            RecordKind::Offer as u16,
-            &[transaction],
-            &[],
-        ),
-        Call::Prepare { transaction, node } => put_record(
-            buffer,
-            at,
-            RecordKind::Prepare as u16,
-            &[transaction, node],
-            &[],
-        ),
-        Call::Decide { transaction } => put_record(
-            buffer,
-            at,
-            RecordKind::Decide as u16,
-            &[transaction],
-            &[],
-        ),
-        Call::Cancel { transaction } => put_record(
-            buffer,
-            at,
-            RecordKind::Cancel as u16,
-            &[transaction],
-            &[],
-        ),
-        Call::Learn { transaction, node } => put_record(
-            buffer,
-            at,
-            RecordKind::Learn as u16,
-            &[transaction, node],
-            &[],
-        ),
-        Call::Apply { node } => put_record(buffer, at, RecordKind::Apply as u16, &[node], &[]),
-        Call::Finish { transaction } => put_record(
-            buffer,
-            at,
-            RecordKind::Finish as u16,
-            &[transaction],
-            &[],
-        ),
+impl Cursor<'_> {
+    /// Writes some bytes.
+    fn put(&mut self, bytes: &[u8])
+        requires { self.old.at + length bytes.now ≤ length self.old.buffer.now }
+        ensures same_buffer { self.new.buffer.ghost_name ≡ self.old.buffer.ghost_name }
+        ensures after { self.new.buffer.now ≡ over self.old.buffer.now self.old.at bytes.now }
+        ensures place { self.new.at ≡ self.old.at + length bytes.now }
+    {
+        let end = self.at + bytes.len();
+        self.buffer[self.at..end].copy_from_slice(bytes);
+        self.at = end;
     }
-}
 
-/// The body of a write record.
-fn write_fields(transaction: TransactionNumber, key: KeyNumber, value: StoredValue) -> [u8; 10]
-    ensures bytes { result ≡ transaction ∷ key ∷ bytes_of 8 value }
-    ensures fit { value < 2 ^ 64 }
-{
-    let v = value.to_le_bytes();
-    [
-        transaction,
-        key,
-        v[0],
-        v[1],
-        v[2],
-        v[3],
-        v[4],
-        v[5],
-        v[6],
-        v[7],
-    ]
+    /// Writes a record whose body is some fields of a byte each and what stands behind them: the placement of a make, or the value of a write.
+    fn put_record(&mut self, kind: RecordKind, fields: &[u8], rest: &[u8])
+        requires room { self.old.at + 4 + length fields.now + length rest.now ≤ length self.old.buffer.now }
+        requires short { 2 + length fields.now + length rest.now < 65536 }
+        ensures same_buffer { self.new.buffer.ghost_name ≡ self.old.buffer.ghost_name }
+        ensures after { self.new.buffer.now ≡ over self.old.buffer.now self.old.at (record_with (number_of kind) (fields.now ++ rest.now)) }
+        ensures place { self.new.at ≡ self.old.at + 4 + length fields.now + length rest.now }
+    {
+        let len = (2 + fields.len() + rest.len()) as u16;
+        self.put(&len.to_le_bytes());
+        self.put(&(kind as u16).to_le_bytes());
+        self.put(fields);
+        self.put(rest);
+    }
+
+    /// Writes the record of a call.
+    fn put_call(&mut self, call: &Call<'_>)
+        requires short { length (record_of (request call.now)) ≤ longest }
+        requires room { self.old.at + length (record_of (request call.now)) ≤ length self.old.buffer.now }
+        ensures same_buffer { self.new.buffer.ghost_name ≡ self.old.buffer.ghost_name }
+        ensures after { self.new.buffer.now ≡ over self.old.buffer.now self.old.at (record_of (request call.now)) }
+        ensures place { self.new.at ≡ self.old.at + length (record_of (request call.now)) }
+        ensures fit { Fit (request call.now) }
+    {
+        match *call {
+            Call::Make {
+                nodes,
+                keys,
+                placement,
+            } => self.put_record(RecordKind::Make, &[nodes, keys], placement),
+            Call::Begin { mode } => self.put_record(RecordKind::Begin, &[mode], &[]),
+            Call::Read {
+                transaction,
+                key,
+                node,
+            } => self.put_record(RecordKind::Read, &[transaction, key, node], &[]),
+            Call::Write {
+                transaction,
+                key,
+                value,
+            } => self.put_record(RecordKind::Write, &[transaction, key], &value.to_le_bytes()),
+            Call::Offer { transaction } => self.put_record(RecordKind::Offer, &[transaction], &[]),
+            Call::Prepare { transaction, node } => {
+                self.put_record(RecordKind::Prepare, &[transaction, node], &[])
+            }
+            Call::Decide { transaction } => {
+                self.put_record(RecordKind::Decide, &[transaction], &[])
+            }
+            Call::Cancel { transaction } => {
+                self.put_record(RecordKind::Cancel, &[transaction], &[])
+            }
+            Call::Learn { transaction, node } => {
+                self.put_record(RecordKind::Learn, &[transaction, node], &[])
+            }
+            Call::Apply { node } => self.put_record(RecordKind::Apply, &[node], &[]),
+            Call::Finish { transaction } => {
+                self.put_record(RecordKind::Finish, &[transaction], &[])
+            }
+        }
+    }
 }
 
 /// Writes the records of some calls to the front of a buffer, and gives the place behind them.
@@ -217,9 +165,9 @@ fn put_calls(calls: &[Call<'_>], buffer: &mut [u8]) -> usize
     ensures value { result ≡ length (tape_of (map request calls.now)) }
     ensures fit { AllFit (map request calls.now) }
 {
-    let mut at = 0;
+    let mut cursor = Cursor { buffer, at: 0 };
     for call in calls {
-        at = put_call(buffer, at, call);
+        cursor.put_call(call);
     }
-    at
+    cursor.at
 }

@@ -2,5 +2,5 @@ use Rattle.std.proofs.Common.{◌≡◌, take, string_bytes}
 use Rattle.listing.specs.Text.{lines}
 use Rattle.listing.proofs.listing_of.Given as goal
 
-abbrev pub invariant-loop-next : goal.invariant-loop-next
-invariant-loop-next l = string_bytes l.text ≡ lines (take l.next-index l.lines)
+abbrev pub invariant-loop-line : goal.invariant-loop-line
+invariant-loop-line l = string_bytes l.text ≡ lines (take l.line-index l.lines)

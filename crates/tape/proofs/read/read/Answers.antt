@@ -1,4 +1,4 @@
-use Rattle.std.proofs.Common.{◌≡◌, ℕ, ltb, [], ◌∷◌, ◌++◌, map, length, Err, vec_items, sym, ap, ◌∙◌, subst, append-nil, arith, rules}
+use Rattle.std.proofs.Common.{◌≡◌, ℕ, nat_lt, [], ◌∷◌, ◌++◌, map, length, Err, vec_items, sym, ap, ◌∙◌, subst, append-nil, arith, rules}
 use Rattle.std.proofs.lemmas.List.{map_push}
 use Rattle.std.proofs.lemmas.Bool.{le-ltb, cond-false}
 use Rattle.calls.specs.declared.refusal.Refusal.TheVariants.{UnreadableTape}
@@ -29,9 +29,6 @@ loop-at-smaller c =
     let behind = beyond tape at c.loop-at-test.true in
     omega (arith, next, behind.0)
 
-pub loop-at-init : goal.loop-at-init
-loop-at-init c = ap (λ xs. map entry_of xs ++ rest_from c.args.tape.now 0) c.new-records.ensures.items
-
 pub returns : goal.returns
 returns c =
     let done = map entry_of (vec_items c.loop-at.records) in
@@ -40,7 +37,7 @@ returns c =
     sym (append-nil done)
     ∙ ap (λ rest. done ++ rest) (sym (rest_none tape c.loop-at.at c.loop-at-test.false))
     ∙ c.loop-at.invariant
-    ∙ sym (cond-false (ltb 32768 (length tape)) ((0, Err UnreadableTape) ∷ []) (rest_from tape 0) (le-ltb 32768 (length tape) (omega arith))) in
+    ∙ sym (cond-false (nat_lt 32768 (length tape)) ((0, Err UnreadableTape) ∷ []) (rest_from tape 0) (le-ltb 32768 (length tape) (omega arith))) in
     record {
       records = all;
       laid_out = subst (λ entries. LaidOut entries tape) (sym all) (lays_out_again tape (λ i. omega (arith, (c.type_inv.tape i).fits)));

@@ -9,7 +9,9 @@ use Rattle.tape.proofs.write.put_calls.Given as goal
 -- the records of the calls so far are written, there is room for the others, and the values so far fit
 abbrev pub invariant-loop-call : goal.invariant-loop-call
 invariant-loop-call l =
-    (l.at + length (tape_of (map request (drop l.call-index l.calls))) ≡ length (tape_of (map request l.calls)))
-    × (l.at ≡ length (front l.calls l.call-index))
-    × (l.buffer ≡ over l.initial.buffer 0 (front l.calls l.call-index))
+    (l.cursor.at + length (tape_of (map request (drop l.call-index l.calls))) ≡ length (tape_of (map request l.calls)))
+    × (l.cursor.at ≡ length (front l.calls l.call-index))
+    × (l.cursor.buffer.now ≡ over l.initial.cursor.buffer.now 0 (front l.calls l.call-index))
     × AllFit (map request (take l.call-index l.calls))
+    × (l.cursor.buffer.ghost_name ≡ l.initial.cursor.buffer.ghost_name)
+    × (length l.cursor.buffer.now ≡ length l.initial.cursor.buffer.now)
