@@ -1,12 +1,6 @@
-use Rattle.std.proofs.Common.{sym, refl, ap, ◌∙◌, subst}
-use Rattle.rules.specs.Changes.{is_applied, is_released}
-use Rattle.records.specs.Bounds.{Keeps}
-use Rattle.records.proofs.Bounded.{keeps_same}
+use Rattle.records.specs.Bounds.{raised_by}
 use Rattle.records.proofs.releasing.applied.Goals as goal
 
-pub returns : goal.returns
-returns c =
-    let x = c.args.x in
-    let p = c.args.p in
-    let is = c.is_applied.ensures ∙ ap (is_applied p) c.is_released.ensures in
-    record { value = is; kept = subst (Keeps x) (sym is) (keeps_same x (is_applied p (is_released p x)) refl refl refl refl refl refl refl) }
+pub returns-clause-kept : goal.returns-clause-kept
+unfolding raised_by
+returns-clause-kept c = record { same = c.disengaged.ensures.kept.same; within = c.disengaged.ensures.kept.within }
