@@ -24,6 +24,7 @@ fn disengaged(x: Transaction, p: NodeNumber) -> Transaction
 }
 
 /// The transaction, applied at a node and released there.
+#[tactic(auto, unfolding(crate::specs::Bounds::raised_by))]
 pub fn applied(x: Transaction, p: NodeNumber) -> Transaction
     ensures value { result ≡ is_applied p (is_released p x) }
     ensures kept { Keeps x result }
@@ -35,6 +36,7 @@ pub fn applied(x: Transaction, p: NodeNumber) -> Transaction
 }
 
 /// The transaction, whose decision a node learns and which it releases.
+#[tactic(auto, unfolding(crate::specs::Bounds::raised_by))]
 pub fn released(x: Transaction, p: NodeNumber) -> Transaction
     ensures value { result ≡ is_learned p (is_released p x) }
     ensures kept { Keeps x result }

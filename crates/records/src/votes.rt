@@ -10,6 +10,7 @@ use calls::sizes::NodeNumber;
 use rules::records::Transaction;
 
 /// How many nodes a byte names.
+#[tactic(auto, using(crate::proofs::Ones::ones_nodes))]
 pub fn count_nodes(nodes: u8) -> u8
     ensures { result ≡ length (nodes_of nodes) }
 {

@@ -13,6 +13,7 @@ use clock::Clock;
 use rules::records::Transaction;
 
 /// The transaction after a read at a node, with this clock.
+#[tactic(auto, unfolding(crate::specs::Bounds::raised_by))]
 pub fn with_read(x: Transaction, p: NodeNumber, clock: Clock) -> Transaction
     ensures value { result ≡ has_read p clock x }
     ensures same { raised_by result ≡ raised_by x }
