@@ -1,12 +1,11 @@
 -- How the bound on numbers follows a change of one record.
-use Rattle.std.proofs.Common.{◌≡◌, ℕ, ◌+◌, ◌<◌, ◌≤◌, max, Bool, cond, List, map, length, get_or, set, sym, refl, ap, ◌∙◌, subst, ⊎_elim, arith}
+use Rattle.std.proofs.Common.{◌≡◌, ℕ, ◌+◌, ◌<◌, ◌≤◌, max, Bool, cond, List, map, length, get_or, set, sym, ap, ◌∙◌, subst, ⊎_elim, arith}
 use Rattle.std.specs.List.{range_with_len}
 use Rattle.std.proofs.lemmas.List.FromFn.{length-map-range_with_len, get_or-map-range_with_len}
 use Rattle.std.proofs.lemmas.List.{get_or_past, get_or-set_same, get_or-set_other, set_past}
 use Rattle.std.proofs.lemmas.Bool.{cases_eq, cases_lt}
 use Rattle.clock.specs.Clocks.{slot, join, marked}
 use Rattle.rules.specs.declared.records.Transaction.{Transaction}
-use Rattle.rules.specs.Changes.{is_numbered, is_learned}
 use Rattle.records.specs.Bounds.{count_below, is_committed, raised_by, ClockWithin, TransactionWithin, Keeps}
 
 -- ── Clocks within a bound ──
@@ -53,13 +52,4 @@ keeps_same x y clock numbers votes commit stamp voted state =
         (subst (ClockWithin b) (sym clock) w.0.0, subst (ClockWithin b) (sym numbers) w.0.1, subst (ClockWithin b) (sym votes) w.0.2),
         (subst (ClockWithin b) (sym commit) w.1.0, subst (λ (n : ℕ). n ≤ b) (sym stamp) w.1.1, subst (λ (row : List Bool). length row ≡ 8) (sym voted) w.1.2),
       );
-    }
-
--- Where a write node learns a commit, the transaction's number there becomes its stamp, which is one of its numbers already.
-pub keeps_stamped : (p : ℕ) (x : Transaction) → Keeps x (is_learned p (is_numbered p x.stamp x))
-unfolding raised_by
-keeps_stamped p x =
-    record {
-      same = refl;
-      within = λ b (w : TransactionWithin b x). ((w.0.0, set_within b x.numbers p x.stamp w.1.1 w.0.1, w.0.2), w.1);
     }

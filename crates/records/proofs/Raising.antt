@@ -2,11 +2,10 @@
 use Rattle.std.proofs.Common.{◌≡◌, ℕ, zero, suc, ◌+◌, ◌<◌, ◌≤◌, Bool, true, false, cond, List, length, set, sym, refl, ap, ◌∙◌, subst, ⊎_elim, arith, length-set}
 use Rattle.std.proofs.lemmas.List.{get_or-set_same, get_or-set_other}
 use Rattle.std.proofs.lemmas.Bool.{cases_eq, cond-true, cond-false}
-use Rattle.clock.specs.Clocks.{marked, join}
+use Rattle.clock.specs.Clocks.{marked}
 use Rattle.rules.specs.declared.records.Transaction.{Transaction}
-use Rattle.rules.specs.Changes.{has_no, has_yes, is_numbered}
 use Rattle.records.specs.Bounds.{count_below, is_committed, raised_by, ClockWithin, TransactionWithin, Raises}
-use Rattle.records.proofs.Bounded.{clock_more, set_within, join_within}
+use Rattle.records.proofs.Bounded.{clock_more}
 
 -- ── A mark more ──
 
@@ -40,6 +39,10 @@ count_more (suc n) row p l inside unmarked =
 
 -- ── Votes ──
 
+-- A clock is within the bound that a vote raises.
+pub still_within : (b : ℕ) (clock : List ℕ) → ClockWithin b clock → ClockWithin (b + 256) clock
+still_within b clock = clock_more b (b + 256) clock (omega arith)
+
 module _ (b : ℕ) (x : Transaction) (p : ℕ) (within : TransactionWithin b x) (node : p < 8) (unvoted : marked x.voted p ≡ false) where
   voted_once : (y : Transaction) → y.voted ≡ set x.voted p true → y.state ≡ x.state → raised_by y ≡ raised_by x + 1
   unfolding raised_by
@@ -49,34 +52,16 @@ module _ (b : ℕ) (x : Transaction) (p : ℕ) (within : TransactionWithin b x) 
       let same : one_if (is_committed y.state) ≡ one_if (is_committed x.state) = ap (λ s. one_if (is_committed s)) state in
       omega arith
 
-  raises : (y : Transaction) → y.voted ≡ set x.voted p true → y.state ≡ x.state → y.clock ≡ x.clock → y.commit ≡ x.commit → y.stamp ≡ x.stamp → ClockWithin (b + 256) y.numbers → ClockWithin (b + 256) y.votes → Raises b x y
-  raises y voted state clock commit stamp numbers votes =
+  pub voted_raises : (y : Transaction) → y.voted ≡ set x.voted p true → y.state ≡ x.state → y.clock ≡ x.clock → y.commit ≡ x.commit → y.stamp ≡ x.stamp → ClockWithin (b + 256) y.numbers → ClockWithin (b + 256) y.votes → Raises b x y
+  voted_raises y voted state clock commit stamp numbers votes =
       record {
         once = voted_once y voted state;
         within = (
-          (subst (ClockWithin (b + 256)) (sym clock) (clock_more b (b + 256) x.clock (omega arith) within.0.0), numbers, votes),
+          (subst (ClockWithin (b + 256)) (sym clock) (still_within b x.clock within.0.0), numbers, votes),
           (
-            subst (ClockWithin (b + 256)) (sym commit) (clock_more b (b + 256) x.commit (omega arith) within.1.0),
+            subst (ClockWithin (b + 256)) (sym commit) (still_within b x.commit within.1.0),
             omega (arith, within.1.1),
             ap length voted ∙ length-set x.voted p true ∙ within.1.2,
           ),
         );
       }
-
-  pub no_raises : (y : Transaction) → y ≡ has_no p x → Raises b x y
-  no_raises y is =
-      subst (λ (z : Transaction). Raises b x z) (sym is)
-      (raises (has_no p x) refl refl refl refl refl (clock_more b (b + 256) x.numbers (omega arith) within.0.1) (clock_more b (b + 256) x.votes (omega arith) within.0.2))
-
-  pub yes_raises : (seen : List ℕ) → ClockWithin b seen → (y : Transaction) → y ≡ has_yes p seen x → Raises b x y
-  yes_raises seen low y is =
-      subst (λ (z : Transaction). Raises b x z) (sym is)
-      (raises (has_yes p seen x) refl refl refl refl refl (clock_more b (b + 256) x.numbers (omega arith) within.0.1)
-      (clock_more b (b + 256) (join x.votes seen) (omega arith) (join_within b x.votes seen within.0.2 low)))
-
-  pub numbered_raises : (seen : List ℕ) (number : ℕ) → ClockWithin b seen → number ≤ b + 256 → (y : Transaction) → y ≡ is_numbered p number (has_yes p seen x) → Raises b x y
-  numbered_raises seen number low few y is =
-      subst (λ (z : Transaction). Raises b x z) (sym is)
-      (raises (is_numbered p number (has_yes p seen x)) refl refl refl refl refl
-      (set_within (b + 256) x.numbers p number few (clock_more b (b + 256) x.numbers (omega arith) within.0.1))
-      (clock_more b (b + 256) (join x.votes seen) (omega arith) (join_within b x.votes seen within.0.2 low)))

@@ -1,11 +1,10 @@
-//! Changes of a transaction's record.
+//! Changes of a transaction's record. Each says what the rules name the change, and how high the numbers of the record can be after it.
 
 ghost use Rattle.std.specs.Prelude.{◌≡◌, false};
 ghost use Rattle.rules.specs.World.{new_transaction};
 ghost use Rattle.rules.specs.Changes.{becomes};
 ghost use Rattle.records.specs.Bounds.{is_committed, Keeps};
 
-use crate::single::becomes;
 use rules::records::{Kind, State, Transaction};
 
 pub mod reading;
@@ -37,9 +36,10 @@ pub fn new_transaction(kind: Kind) -> Transaction
 }
 
 /// The transaction in another state. Where neither state is a commit, no number rises.
+#[tactic(auto, using(crate::proofs::Bounded::keeps_same))]
 pub fn ended(x: Transaction, state: State) -> Transaction
     ensures value { result ≡ becomes state x }
     ensures kept { is_committed x.state ≡ false → is_committed state ≡ false → Keeps x result }
 {
-    becomes(x, state)
+    Transaction { state, ..x }
 }

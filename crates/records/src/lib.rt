@@ -5,6 +5,5 @@ pub mod changes;
 pub mod marks;
 pub mod releasing;
 pub mod rows;
-mod single;
 pub mod states;
 pub mod votes;

@@ -6,25 +6,45 @@ ghost use Rattle.rules.specs.Voting.{counted};
 ghost use Rattle.rules.specs.Applying.{has_seen, advanced};
 ghost use Rattle.records.specs.Bounds.{ClockWithin, NodeWithin, Keeps};
 
-use crate::single::{is_applied, is_learned, is_numbered, is_released, reaches, sees};
+use crate::rows::with_entry;
 use calls::sizes::{NodeNumber, Stamp};
-use clock::Clock;
+use clock::{Clock, join};
 use rules::records::{Node, Transaction};
 
+/// The transaction that a node has released.
+#[tactic(auto, using(crate::proofs::Bounded::keeps_same))]
+fn disengaged(x: Transaction, p: NodeNumber) -> Transaction
+    ensures value { result ≡ is_released p x }
+    ensures kept { Keeps x result }
+{
+    Transaction {
+        engaged: with_entry(x.engaged, p, false),
+        ..x
+    }
+}
+
 /// The transaction, applied at a node and released there.
+#[tactic(auto, unfolding(crate::specs::Bounds::raised_by))]
 pub fn applied(x: Transaction, p: NodeNumber) -> Transaction
     ensures value { result ≡ is_applied p (is_released p x) }
     ensures kept { Keeps x result }
 {
-    is_applied(is_released(x, p), p)
+    Transaction {
+        applied: with_entry(x.applied, p, true),
+        ..disengaged(x, p)
+    }
 }
 
 /// The transaction, whose decision a node learns and which it releases.
+#[tactic(auto, unfolding(crate::specs::Bounds::raised_by))]
 pub fn released(x: Transaction, p: NodeNumber) -> Transaction
     ensures value { result ≡ is_learned p (is_released p x) }
     ensures kept { Keeps x result }
 {
-    is_learned(is_released(x, p), p)
+    Transaction {
+        learned: with_entry(x.learned, p, true),
+        ..disengaged(x, p)
+    }
 }
 
 /// The transaction, whose commit a write node learns: its number there becomes its stamp.
@@ -32,7 +52,11 @@ pub fn numbered(x: Transaction, p: NodeNumber) -> Transaction
     ensures value { result ≡ is_learned p (is_numbered p x.stamp x) }
     ensures kept { Keeps x result }
 {
-    is_learned(is_numbered(x, p, x.stamp), p)
+    Transaction {
+        learned: with_entry(x.learned, p, true),
+        numbers: with_entry(x.numbers, p, x.stamp),
+        ..x
+    }
 }
 
 /// The node, with a counter of at least this.
@@ -51,7 +75,10 @@ pub fn has_seen(n: Node, commit: Clock) -> Node
     ensures value { result ≡ has_seen commit n }
     ensures within { (b : ℕ) → NodeWithin b n → ClockWithin b commit → NodeWithin b result }
 {
-    sees(n, commit)
+    Node {
+        seen: join(n.seen, commit),
+        ..n
+    }
 }
 
 /// The node, with this commit clock taken into its seen clock and this stamp for its frontier.
@@ -59,5 +86,8 @@ pub fn advanced(n: Node, stamp: Stamp, commit: Clock) -> Node
     ensures value { result ≡ advanced stamp (has_seen commit n) }
     ensures within { (b : ℕ) → NodeWithin b n → stamp ≤ b → ClockWithin b commit → NodeWithin b result }
 {
-    reaches(has_seen(n, commit), stamp)
+    Node {
+        frontier: stamp,
+        ..has_seen(n, commit)
+    }
 }

@@ -1,6 +1,6 @@
-//! Rows with an entry for each key. Past the end of a row no key is there, and no entry is changed.
+//! Rows with an entry for each node or for each key. Past the end of a row no key is there, and no entry is changed.
 
-ghost use Rattle.std.specs.Prelude.{◌≡◌, ◌||◌, Some, None, nat_lt, slice_index_or, slice_set};
+ghost use Rattle.std.specs.Prelude.{◌≡◌, ◌||◌, None, nat_lt, slice_index_or, slice_set};
 ghost use Rattle.rules.specs.World.{is_there, how_many};
 
 use calls::sizes::KeyNumber;
@@ -16,16 +16,16 @@ pub fn has_room<T: Copy>(row: &[Option<T>], k: KeyNumber) -> bool
 pub fn is_there<T: Copy>(row: &[Option<T>], k: KeyNumber) -> bool
     ensures { result ≡ is_there (slice_index_or row.now k None) }
 {
-    usize::from(k) < row.len() && row[usize::from(k)].is_some()
+    row.get(usize::from(k)).is_some_and(|entry| entry.is_some())
 }
 
-/// The row with an entry for a key, in place of an earlier one.
-pub fn with_entry<T: Copy>(row: [Option<T>; 64], k: KeyNumber, entry: T) -> [Option<T>; 64]
-    ensures { result ≡ slice_set row k (Some entry) }
+/// The row with another entry at a place.
+pub fn with_entry<T: Copy, const N: usize>(row: [T; N], i: u8, entry: T) -> [T; N]
+    ensures { result ≡ slice_set row i entry }
 {
     let mut after = row;
-    if usize::from(k) < 64 {
-        after[usize::from(k)] = Some(entry);
+    if usize::from(i) < N {
+        after[usize::from(i)] = entry;
     }
     after
 }
@@ -34,11 +34,5 @@ pub fn with_entry<T: Copy>(row: [Option<T>; 64], k: KeyNumber, entry: T) -> [Opt
 fn how_many<T: Copy>(row: &[Option<T>]) -> usize
     ensures { result ≡ how_many row.now }
 {
-    let mut there: usize = 0;
-    for entry in row {
-        if entry.is_some() {
-            there += 1;
-        }
-    }
-    there
+    row.iter().filter(|entry| entry.is_some()).count()
 }

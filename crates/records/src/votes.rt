@@ -1,6 +1,6 @@
 //! Which nodes an update polls, and whether they have voted.
 
-ghost use Rattle.std.specs.Prelude.{◌≡◌, not, ◌||◌, length, count_ones};
+ghost use Rattle.std.specs.Prelude.{◌≡◌, not, ◌||◌, length};
 ghost use Rattle.clock.specs.Clocks.{marked};
 ghost use Rattle.rules.specs.World.{bit};
 ghost use Rattle.rules.specs.Deciding.{nodes_of, all_voted};
@@ -10,17 +10,11 @@ use calls::sizes::NodeNumber;
 use rules::records::Transaction;
 
 /// How many nodes a byte names.
+#[tactic(auto, using(crate::proofs::Ones::ones_nodes))]
 pub fn count_nodes(nodes: u8) -> u8
     ensures { result ≡ length (nodes_of nodes) }
 {
-    ones(nodes)
-}
-
-/// How many bits of a byte are set.
-fn ones(byte: u8) -> u8
-    ensures { result ≡ count_ones byte }
-{
-    byte.count_ones() as u8
+    nodes.count_ones() as u8
 }
 
 /// Whether a byte names a node.
@@ -48,10 +42,5 @@ fn has_voted(x: &Transaction, p: NodeNumber) -> bool
 pub fn all_voted(x: &Transaction) -> bool
     ensures { result ≡ all_voted x.now }
 {
-    for p in 0..8 {
-        if !has_voted(x, p) {
-            return false;
-        }
-    }
-    true
+    (0..8).all(|p| has_voted(x, p))
 }

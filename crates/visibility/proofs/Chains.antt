@@ -85,22 +85,25 @@ module _ (m : Meaning) (w : World) (read : List Bool) (clock : List ℕ) (p k i 
   test = λ v. passes read (commit_clock w v.writer) clock
 
   module _ (so_far : Walked test (chain m p k) i) where
-    module _ (value writer : ℕ) (e : Some (value, writer) ≡ nth_answer m p k i) (good : Bool) (told : good ≡ passes read (commit_clock w writer) clock) where
+    module _ (value writer : ℕ) (e : Some (value, writer) ≡ nth_answer m p k i) (good : Bool) (commit : List ℕ) (told : good ≡ passes read commit clock) (is_commit : commit ≡ commit_clock w writer) where
+      answer : test (version value writer) ≡ good
+      answer = sym (told ∙ ap (λ (c : List ℕ). passes read c clock) is_commit)
+
       rest : drop i (chain m p k) ≡ version value writer ∷ drop (suc i) (chain m p k)
       rest = (found (chain m p k) i value writer (e ∙ from_chain m p k i)).1
 
       pub passing_here : good ≡ true → (v : Version) → v ≡ version value writer → v ≡ newest_passing test (chain m p k)
       unfolding newest_passing
-      passing_here passed v is = is ∙ sym (ap (newest_passing test) rest ∙ cond-true (test (version value writer)) _ _ (sym told ∙ passed)) ∙ so_far.0
+      passing_here passed v is = is ∙ sym (ap (newest_passing test) rest ∙ cond-true (test (version value writer)) _ _ (answer ∙ passed)) ∙ so_far.0
 
       pub newest_if_first : good ≡ true → (b : Bool) → b ≡ eqb i 0 → b ≡ newest_passes test (chain m p k)
-      newest_if_first passed b is = is ∙ newest_here test (chain m p k) i value writer (e ∙ from_chain m p k i) (sym told ∙ passed) so_far.1
+      newest_if_first passed b is = is ∙ newest_here test (chain m p k) i value writer (e ∙ from_chain m p k i) (answer ∙ passed) so_far.1
 
       pub walked_on : good ≡ false → Walked test (chain m p k) (i + 1)
       unfolding newest_passing
       walked_on failed = (
-        sym (ap (newest_passing test) rest ∙ cond-false (test (version value writer)) _ _ (sym told ∙ failed) ∙ rw add-one refl) ∙ so_far.0,
-        λ more. newest_older test (chain m p k) i value writer (e ∙ from_chain m p k i) (sym told ∙ failed) so_far.1,
+        sym (ap (newest_passing test) rest ∙ cond-false (test (version value writer)) _ _ (answer ∙ failed) ∙ rw add-one refl) ∙ so_far.0,
+        λ more. newest_older test (chain m p k) i value writer (e ∙ from_chain m p k i) (answer ∙ failed) so_far.1,
       )
 
     module _ (e : None ≡ nth_answer m p k i) where

@@ -1,28 +1,16 @@
 -- The clock of a transaction after a read, and the commit clocks that it is compared with.
-use Rattle.std.proofs.Common.{◌≡◌, ℕ, suc, ◌<◌, ◌≤◌, Bool, true, false, cond, ◌&&◌, List, [], ◌∷◌, length, get_or, fold, sym, ap, ◌∙◌, subst}
-use Rattle.std.proofs.lemmas.List.{get_or_past, get_or_default}
+use Rattle.std.proofs.Common.{◌≡◌, ℕ, suc, ◌≤◌, Bool, true, false, cond, ◌&&◌, List, [], ◌∷◌, get_or, fold, sym, ap, ◌∙◌, subst}
 use Rattle.std.proofs.lemmas.Bool.{cond-true, cond-false}
 use Rattle.clock.specs.Clocks.{slot, join, marked, passes}
 use Rattle.rules.specs.declared.records.Kind.TheVariants.{Search}
 use Rattle.rules.specs.declared.records.Transaction.{Transaction}
-use Rattle.rules.specs.World.{World, zero_clock, new_transaction}
+use Rattle.rules.specs.World.{World, new_transaction}
 use Rattle.rules.specs.Reading.{with_passing, clock_after}
 use Rattle.records.specs.Bounds.{ClockWithin}
 use Rattle.records.proofs.Bounded.{join_within}
 
 abbrev blank : Transaction
 blank = new_transaction Search
-
--- Within the list the default does not matter, and past it the commit clock is that of the default.
-pub commit_inside : (xs : List Transaction) (i : ℕ) (d : Transaction) → i < length xs → (get_or xs i d).commit ≡ (get_or xs i blank).commit
-commit_inside xs i d inside = ap (λ (u : Transaction). u.commit) (get_or_default xs i d blank inside)
-
-pub commit_past : (xs : List Transaction) (i : ℕ) → length xs ≤ i → zero_clock ≡ (get_or xs i blank).commit
-commit_past xs i past = sym (ap (λ (u : Transaction). u.commit) (get_or_past xs i blank past))
-
--- There is no mark past the end of a row.
-pub marked_past : (row : List Bool) (p : ℕ) → length row ≤ p → false ≡ marked row p
-marked_past row p past = sym (get_or_past row p false past)
 
 -- At the first read at a node the clocks that pass are joined in, and not after.
 pub clock_again : (w : World) (x : Transaction) (p : ℕ) → marked x.read p ≡ true → x.clock ≡ clock_after w x p

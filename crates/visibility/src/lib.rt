@@ -1,8 +1,8 @@
 //! What a transaction may see at a node: its clock after a read there, and the version of a key that it gets.
 #![tactic(auto)]
 
-ghost use Rattle.std.specs.Prelude.{◌≡◌, ℕ, ◌<◌, ◌≤◌, true, [], if◌then◌else◌, fold, ◌==◌, slice_index_or, slice_set};
-ghost use Rattle.clock.specs.Clocks.{slot, marked, passes};
+ghost use Rattle.std.specs.Prelude.{◌≡◌, ℕ, ◌<◌, ◌≤◌, [], if◌then◌else◌, fold, ◌==◌, slice_index_or};
+ghost use Rattle.clock.specs.Clocks.{slot, passes};
 ghost use Rattle.store.specs.Model.{in_range};
 ghost use Rattle.rules.specs.declared.records.Kind.TheVariants.{Search};
 ghost use Rattle.rules.specs.World.{World, new_transaction};
@@ -10,7 +10,8 @@ ghost use Rattle.rules.specs.Reading.{commit_clock, with_passing, clock_after, v
 
 use calls::sizes::{KeyNumber, NodeNumber, StoredValue, TransactionNumber};
 use clock::{Clock, NodeMarks, join, passes};
-use records::marks::{is_marked, with_mark};
+use records::marks::is_marked;
+use records::rows::with_entry;
 use rules::records::Transaction;
 use store::{Version, VersionStore};
 
@@ -21,40 +22,17 @@ pub struct Seen {
     pub newest: bool,
 }
 
-/// The commit clock at a place of the list, and past its end a zero clock.
-fn commit_at(transactions: &[Transaction], i: usize) -> Clock
-    ensures { result ≡ (slice_index_or transactions.now i (new_transaction Search)).commit }
-{
-    if i < transactions.len() {
-        transactions[i].commit
-    } else {
-        [0; 8]
-    }
-}
-
 /// The commit clock of a version's writer. It is zero for the first version, and for a number that is not begun.
 pub fn commit_clock(transactions: &[Transaction], writer: TransactionNumber) -> Clock
     ensures { (w : World) → w.transactions ≡ transactions.now → result ≡ commit_clock w writer }
 {
-    if writer == 0 {
-        [0; 8]
+    if let Some(i) = writer.checked_sub(1)
+        && let Some(u) = transactions.get(usize::from(i))
+    {
+        u.commit
     } else {
-        commit_at(transactions, usize::from(writer) - 1)
+        [0; 8]
     }
-}
-
-/// Whether a transaction has read at a node.
-fn has_read_at(x: &Transaction, p: NodeNumber) -> bool
-    ensures { result ≡ marked x.now.read p }
-{
-    is_marked(x.read, p)
-}
-
-/// The nodes that a transaction has read at, after a read at a node.
-fn read_after(x: &Transaction, p: NodeNumber) -> NodeMarks
-    ensures { result ≡ slice_set x.now.read p true }
-{
-    with_mark(x.read, p)
 }
 
 /// A clock with the commit clock of one more transaction, where that is applied at a node and passes.
@@ -74,6 +52,7 @@ fn with_all_passing(x: &Transaction, p: NodeNumber, transactions: &[Transaction]
 {
     let mut joined = x.clock;
     for u in transactions {
+        // The proof does not cover a call whose array is laid straight into `joined`.
         let next = with_passing(x, p, joined, u);
         joined = next;
     }
@@ -85,23 +64,11 @@ pub fn clock_after(x: &Transaction, p: NodeNumber, transactions: &[Transaction])
     ensures value { (w : World) → w.transactions ≡ transactions.now → result ≡ clock_after w x.now p }
     ensures within { (b : ℕ) → ((q : ℕ) → slot x.now.clock q ≤ b) → ((i q : ℕ) → slot (slice_index_or transactions.now i (new_transaction Search)).commit q ≤ b) → (q : ℕ) → slot result q ≤ b }
 {
-    if has_read_at(x, p) {
+    if is_marked(x.read, p) {
         x.clock
     } else {
         with_all_passing(x, p, transactions)
     }
-}
-
-/// Whether the commit clock of a version's writer passes.
-fn writer_passes(
-    transactions: &[Transaction],
-    writer: TransactionNumber,
-    read: NodeMarks,
-    clock: Clock,
-) -> bool
-    ensures { (w : World) → w.transactions ≡ transactions.now → result ≡ passes read (commit_clock w writer) clock }
-{
-    passes(read, commit_clock(transactions, writer), clock)
 }
 
 /// A version that stands so many steps below the newest.
@@ -129,7 +96,7 @@ fn newest_passing<S: VersionStore>(
 {
     let mut steps: usize = 0;
     while let Some((value, writer)) = store.nth(p, k, steps) {
-        if writer_passes(transactions, writer, read, clock) {
+        if passes(read, commit_clock(transactions, writer), clock) {
             return seen_after(steps, value, writer);
         }
         steps += 1;
@@ -149,5 +116,12 @@ pub fn visible<S: VersionStore>(
     ensures version { (w : World) → w.transactions ≡ transactions.now → w.store ≡ S.VersionStore.meaning store.now → clock ≡ clock_after w x.now p → p < 8 → k < 64 → result.version ≡ visible w x.now k p }
     ensures newest { (w : World) → w.transactions ≡ transactions.now → w.store ≡ S.VersionStore.meaning store.now → clock ≡ clock_after w x.now p → p < 8 → k < 64 → result.newest ≡ newest_passes (version_passes w x.now p) (w.store p k).versions }
 {
-    newest_passing(transactions, store, read_after(x, p), clock, k, p)
+    newest_passing(
+        transactions,
+        store,
+        with_entry(x.read, p, true),
+        clock,
+        k,
+        p,
+    )
 }

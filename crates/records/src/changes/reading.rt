@@ -6,23 +6,28 @@ ghost use Rattle.rules.specs.Changes.{has_read, has_noted};
 ghost use Rattle.rules.specs.Reading.{can_note};
 ghost use Rattle.records.specs.Bounds.{raised_by, ClockWithin, TransactionWithin, Keeps};
 
-use crate::rows::has_room;
-use crate::single::{has_noted, has_read};
+use crate::rows::{has_room, is_there, with_entry};
 use calls::refusal::Refusal;
 use calls::sizes::{KeyNumber, NodeNumber, TransactionNumber};
 use clock::Clock;
 use rules::records::Transaction;
 
 /// The transaction after a read at a node, with this clock.
+#[tactic(auto, unfolding(crate::specs::Bounds::raised_by))]
 pub fn with_read(x: Transaction, p: NodeNumber, clock: Clock) -> Transaction
     ensures value { result ≡ has_read p clock x }
     ensures same { raised_by result ≡ raised_by x }
     ensures within { (b : ℕ) → TransactionWithin b x → ClockWithin b clock → TransactionWithin b result }
 {
-    has_read(x, p, clock)
+    Transaction {
+        clock,
+        read: with_entry(x.read, p, true),
+        ..x
+    }
 }
 
 /// The transaction with the writer of a version that it read noted, once a key and of at most eight keys.
+#[tactic(auto, using(crate::proofs::Bounded::keeps_same))]
 pub fn with_note(
     x: Transaction,
     k: KeyNumber,
@@ -34,5 +39,10 @@ pub fn with_note(
     if !has_room(&x.noted, k) {
         return Err(Refusal::TooManyKeysRead);
     }
-    Ok(has_noted(x, k, writer))
+    let noted = if is_there(&x.noted, k) {
+        x.noted
+    } else {
+        with_entry(x.noted, k, Some(writer))
+    };
+    Ok(Transaction { noted, ..x })
 }

@@ -5,9 +5,9 @@ ghost use Rattle.clock.specs.Clocks.{marked};
 ghost use Rattle.rules.specs.Changes.{has_no, has_yes, is_numbered};
 ghost use Rattle.records.specs.Bounds.{ClockWithin, TransactionWithin, Raises};
 
-use crate::single::{has_no, has_yes, is_numbered};
+use crate::rows::with_entry;
 use calls::sizes::{NodeNumber, Stamp};
-use clock::Clock;
+use clock::{Clock, join};
 use rules::records::Transaction;
 
 /// The transaction after a node's no.
@@ -15,7 +15,11 @@ pub fn voted_no(x: Transaction, p: NodeNumber) -> Transaction
     ensures value { result ≡ has_no p x }
     ensures raised { (b : ℕ) → p < 8 → marked x.voted p ≡ false → TransactionWithin b x → Raises b x result }
 {
-    has_no(x, p)
+    Transaction {
+        voted: with_entry(x.voted, p, true),
+        refused: true,
+        ..x
+    }
 }
 
 /// The transaction after a node's yes, which carries the node's seen clock.
@@ -23,7 +27,12 @@ pub fn voted_yes(x: Transaction, p: NodeNumber, seen: Clock) -> Transaction
     ensures value { result ≡ has_yes p seen x }
     ensures raised { (b : ℕ) → p < 8 → marked x.voted p ≡ false → TransactionWithin b x → ClockWithin b seen → Raises b x result }
 {
-    has_yes(x, p, seen)
+    Transaction {
+        voted: with_entry(x.voted, p, true),
+        engaged: with_entry(x.engaged, p, true),
+        votes: join(x.votes, seen),
+        ..x
+    }
 }
 
 /// The transaction after a node's yes that gave it a number.
@@ -31,5 +40,8 @@ pub fn numbered_yes(x: Transaction, p: NodeNumber, seen: Clock, number: Stamp) -
     ensures value { result ≡ is_numbered p number (has_yes p seen x) }
     ensures raised { (b : ℕ) → p < 8 → marked x.voted p ≡ false → TransactionWithin b x → ClockWithin b seen → number ≤ b + 256 → Raises b x result }
 {
-    is_numbered(has_yes(x, p, seen), p, number)
+    Transaction {
+        numbers: with_entry(x.numbers, p, number),
+        ..voted_yes(x, p, seen)
+    }
 }

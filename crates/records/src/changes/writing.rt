@@ -6,13 +6,13 @@ ghost use Rattle.rules.specs.World.{wrote, how_many};
 ghost use Rattle.rules.specs.Changes.{has_written, is_now_offered};
 ghost use Rattle.records.specs.Bounds.{is_committed, Keeps};
 
-use crate::rows::has_room;
-use crate::single::{has_written, is_offered};
+use crate::rows::{has_room, with_entry};
 use calls::refusal::Refusal;
 use calls::sizes::{KeyNumber, StoredValue};
-use rules::records::Transaction;
+use rules::records::{State, Transaction};
 
 /// The transaction with a value for a key, of at most eight keys.
+#[tactic(auto, using(crate::proofs::Bounded::keeps_same))]
 pub fn with_write(x: Transaction, k: KeyNumber, value: StoredValue) -> Result<Transaction, Refusal>
     ensures value { result ≡ (if wrote x k || nat_lt (how_many x.written) 8 then Ok (has_written k value x) else Err TooManyKeysWritten) }
     ensures kept { IfOk result (λ y. Keeps x y) }
@@ -20,13 +20,21 @@ pub fn with_write(x: Transaction, k: KeyNumber, value: StoredValue) -> Result<Tr
     if !has_room(&x.written, k) {
         return Err(Refusal::TooManyKeysWritten);
     }
-    Ok(has_written(x, k, value))
+    Ok(Transaction {
+        written: with_entry(x.written, k, Some(value)),
+        ..x
+    })
 }
 
 /// The transaction offered to the nodes of a byte.
+#[tactic(auto, using(crate::proofs::Bounded::keeps_same))]
 pub fn offered(x: Transaction, polled: u8) -> Transaction
     ensures value { result ≡ is_now_offered polled x }
     ensures kept { is_committed x.state ≡ false → Keeps x result }
 {
-    is_offered(x, polled)
+    Transaction {
+        state: State::Offered,
+        polled,
+        ..x
+    }
 }

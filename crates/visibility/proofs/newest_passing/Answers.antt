@@ -2,16 +2,16 @@ use Rattle.std.proofs.Common.{arith}
 use Rattle.visibility.proofs.Chains.{within, chain_short, passing_here, newest_if_first, walked_on, passing_none, newest_if_none}
 use Rattle.visibility.proofs.newest_passing.Goals as goal
 
-pub returns-then-writer_passes : goal.returns-then-writer_passes
-returns-then-writer_passes g c =
+pub returns-then-passes : goal.returns-then-passes
+returns-then-passes g c =
     let m = g.S.VersionStore.meaning c.args.store.now in
     record {
       version = λ w parts.
           passing_here m w c.args.read c.args.clock c.args.p c.args.k c.loop-value.steps (c.loop-value.invariant w parts) c.in-Some.value c.in-Some.writer c.in-Some.ensures
-          c.writer_passes.result (c.writer_passes.ensures w parts) c.if-writer_passes.true _ c.seen_after.ensures.version;
+          c.passes.result _ c.passes.ensures.value (c.commit_clock.ensures w parts) c.if-passes.true _ c.seen_after.ensures.version;
       newest = λ w parts.
           newest_if_first m w c.args.read c.args.clock c.args.p c.args.k c.loop-value.steps (c.loop-value.invariant w parts) c.in-Some.value c.in-Some.writer c.in-Some.ensures
-          c.writer_passes.result (c.writer_passes.ensures w parts) c.if-writer_passes.true _ c.seen_after.ensures.newest;
+          c.passes.result _ c.passes.ensures.value (c.commit_clock.ensures w parts) c.if-passes.true _ c.seen_after.ensures.newest;
     }
 
 pub overflow_add-steps : goal.overflow_add-steps
@@ -31,7 +31,7 @@ pub loop-value-preserved : goal.loop-value-preserved
 loop-value-preserved g c w parts =
     let m = g.S.VersionStore.meaning c.args.store.now in
     walked_on m w c.args.read c.args.clock c.args.p c.args.k c.loop-value.steps (c.loop-value.invariant w parts) c.in-Some.value c.in-Some.writer c.in-Some.ensures
-    c.writer_passes.result (c.writer_passes.ensures w parts) c.if-writer_passes.false
+    c.passes.result _ c.passes.ensures.value (c.commit_clock.ensures w parts) c.if-passes.false
 
 pub returns : goal.returns
 returns g c =

@@ -1,12 +1,13 @@
-use Rattle.std.proofs.Common.{sym, ap, ◌∙◌, subst}
-use Rattle.rules.specs.Changes.{is_learned}
-use Rattle.records.specs.Bounds.{Keeps}
-use Rattle.records.proofs.Bounded.{keeps_stamped}
+use Rattle.std.proofs.Common.{sym, refl, subst}
+use Rattle.records.specs.Bounds.{raised_by, ClockWithin}
+use Rattle.records.proofs.Bounded.{set_within}
 use Rattle.records.proofs.releasing.numbered.Goals as goal
 
-pub returns : goal.returns
-returns c =
+pub returns-clause-kept : goal.returns-clause-kept
+unfolding raised_by
+returns-clause-kept c =
     let x = c.args.x in
-    let p = c.args.p in
-    let is = c.is_learned.ensures ∙ ap (is_learned p) c.is_numbered.ensures in
-    record { value = is; kept = subst (Keeps x) (sym is) (keeps_stamped p x) }
+    record {
+      same = refl;
+      within = λ b w. ((w.0.0, subst (ClockWithin b) (sym c.with_entry-2.ensures) (set_within b x.numbers c.args.p x.stamp w.1.1 w.0.1), w.0.2), w.1);
+    }

@@ -1,13 +1,10 @@
-use Rattle.std.proofs.Common.{◌≡◌, ℕ, ◌+◌, ◌<◌, ◌≤◌, true, sym, arith, rules, below_more}
-use Rattle.records.proofs.Polls.{has_voted, all_have_voted, one_has_not}
+use Rattle.std.proofs.Common.{refl, ◌∙◌, rules, tests}
+use Rattle.std.proofs.lemmas.Iterator.{YieldsList-from_range}
+use Rattle.std.proofs.lemmas.Iterator.Search.{all_from_yields_List}
+use Rattle.records.proofs.Polls.{has_voted, all_voted_listed}
 use Rattle.records.proofs.votes.all_voted.Goals as goal
 
-pub loop-p-preserved : goal.loop-p-preserved
-loop-p-preserved c =
+pub returns : goal.returns
+returns c =
     let x = c.args.x.now in
-    let p = c.loop-p.p in
-    let each : (k : ℕ) → k < p + 1 → has_voted x k ≡ true = below_more (λ k. has_voted x k ≡ true) p c.loop-p.invariant.0 (search rules) in
-    (each, λ (enough : 8 ≤ p + 1). all_have_voted x (p + 1) enough each)
-
-pub returns-then-not-has_voted : goal.returns-then-not-has_voted
-returns-then-not-has_voted c = sym (one_has_not c.args.x.now c.loop-p.p (omega arith) (search rules))
+    all_from_yields_List (has_voted x) _ _ c.all.result c.all.ensures.ran (YieldsList-from_range 0 8 8 refl refl) (λ p voted q k. search (rules, tests)) ∙ all_voted_listed x

@@ -1,19 +1,16 @@
-use Rattle.std.proofs.Common.{◌≡◌, ◌+◌, ◌<◌, ◌≤◌, false, ap, ◌∙◌}
-use Rattle.clock.specs.Clocks.{marked}
-use Rattle.rules.specs.Changes.{is_numbered}
-use Rattle.records.specs.Bounds.{ClockWithin, TransactionWithin}
-use Rattle.records.proofs.Raising.{numbered_raises}
+use Rattle.std.proofs.Common.{◌+◌, sym, subst}
+use Rattle.records.specs.Bounds.{ClockWithin, raised_by}
+use Rattle.records.proofs.Bounded.{set_within}
+use Rattle.records.proofs.Raising.{still_within}
 use Rattle.records.proofs.changes.voting.numbered_yes.Goals as goal
 
-pub returns : goal.returns
-returns c =
+pub returns-clause-raised : goal.returns-clause-raised
+unfolding raised_by
+returns-clause-raised c = λ b small unvoted w low few.
     let x = c.args.x in
-    let p = c.args.p in
-    let seen = c.args.seen in
-    let number = c.args.number in
-    let is = c.is_numbered.ensures ∙ ap (is_numbered p number) c.has_yes.ensures in
+    let voted = c.voted_yes.ensures.raised b small unvoted w low in
+    let numbers = subst (ClockWithin (b + 256)) (sym c.with_entry.ensures) (set_within (b + 256) x.numbers c.args.p c.args.number few (still_within b _ w.0.1)) in
     record {
-      value = is;
-      raised = λ b (small : p < 8) (unvoted : marked x.voted p ≡ false) (w : TransactionWithin b x) (low : ClockWithin b seen) (few : number ≤ b + 256).
-          numbered_raises b x p w small unvoted seen number low few _ is;
+      once = voted.once;
+      within = ((voted.within.0.0, numbers, voted.within.0.2), voted.within.1);
     }
