@@ -7,7 +7,7 @@ use Rattle.store.specs.Model.{Meaning, put_after}
 use Rattle.rules.specs.declared.records.Transaction.{Transaction}
 use Rattle.rules.specs.World.{written_value}
 use Rattle.rules.specs.Applying.{put_all}
-use Rattle.keys.proofs.Collecting.{counting_more}
+use Rattle.keys.proofs.Chains.{counting_more}
 
 module _ (p t : ℕ) (x : Transaction) where
   -- One key more at the end of the list.

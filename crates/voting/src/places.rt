@@ -26,8 +26,8 @@ pub fn set_places<S: VersionStore>(
     ensures after { (w : World) → w.placement ≡ placement.now → S.VersionStore.meaning store.new ≡ if_ok result (all_aside (S.VersionStore.meaning store.old) p (written_at w x.now p)) (S.VersionStore.meaning store.old) }
     ensures rule { S.VersionStore.free store.new ≡ S.VersionStore.free store.old }
 {
-    let (keys, count) = written_keys(placement, x, p);
-    set_aside_all(store, p, &keys[0..count])
+    let keys = written_keys(placement, x, p);
+    set_aside_all(store, p, keys.as_slice())
 }
 
 /// Gives back a place for each key that an update writes and that a node holds.
@@ -40,8 +40,8 @@ fn give_back_written<S: VersionStore>(
     ensures after { (w : World) → w.placement ≡ placement.now → S.VersionStore.meaning store.new ≡ all_back (S.VersionStore.meaning store.old) p (written_at w x.now p) }
     ensures rule { S.VersionStore.free store.new ≡ S.VersionStore.free store.old }
 {
-    let (keys, count) = written_keys(placement, x, p);
-    give_back_all(store, p, &keys[0..count]);
+    let keys = written_keys(placement, x, p);
+    give_back_all(store, p, keys.as_slice());
 }
 
 /// Gives back the places that a node set aside for an update that is engaged there.
@@ -88,6 +88,6 @@ pub fn put_written<S: VersionStore>(
     ensures after { (w : World) → w.placement ≡ placement.now → S.VersionStore.meaning store.new ≡ put_all (S.VersionStore.meaning store.old) p t x.now (written_at w x.now p) }
     ensures rule { S.VersionStore.free store.new ≡ S.VersionStore.free store.old }
 {
-    let (keys, count) = written_keys(placement, x, p);
-    put_all(store, p, t, x, &keys[0..count]);
+    let keys = written_keys(placement, x, p);
+    put_all(store, p, t, x, keys.as_slice());
 }
