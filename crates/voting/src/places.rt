@@ -30,27 +30,14 @@ pub fn set_places<S: VersionStore>(
     set_aside_all(store, p, keys.as_slice())
 }
 
-/// Gives back a place for each key that an update writes and that a node holds.
-fn give_back_written<S: VersionStore>(
-    placement: &[u8],
-    store: &mut S,
-    p: NodeNumber,
-    x: &Transaction,
-)
-    ensures after { (w : World) → w.placement ≡ placement.now → S.VersionStore.meaning store.new ≡ all_back (S.VersionStore.meaning store.old) p (written_at w x.now p) }
-    ensures rule { S.VersionStore.free store.new ≡ S.VersionStore.free store.old }
-{
-    let keys = written_keys(placement, x, p);
-    give_back_all(store, p, keys.as_slice());
-}
-
 /// Gives back the places that a node set aside for an update that is engaged there.
 pub fn give_back<S: VersionStore>(placement: &[u8], store: &mut S, p: NodeNumber, x: &Transaction)
     ensures after { (w : World) → w.placement ≡ placement.now → S.VersionStore.meaning store.new ≡ (if marked x.now.engaged p then all_back (S.VersionStore.meaning store.old) p (written_at w x.now p) else S.VersionStore.meaning store.old) }
     ensures rule { S.VersionStore.free store.new ≡ S.VersionStore.free store.old }
 {
     if is_engaged(x, p) {
-        give_back_written(placement, store, p, x);
+        let keys = written_keys(placement, x, p);
+        give_back_all(store, p, keys.as_slice());
     }
 }
 
