@@ -1,3 +1,2 @@
-pub mod Collecting
-pub mod Holders
+pub mod Chains
 pub mod Placed

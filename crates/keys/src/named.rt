@@ -10,10 +10,7 @@ use rules::records::Transaction;
 fn entry_at<T: Copy>(row: &[Option<T>], k: KeyNumber) -> Option<T>
     ensures { result ≡ slice_index_or row.now k None }
 {
-    match row.get(usize::from(k)) {
-        Some(entry) => *entry,
-        None => None,
-    }
+    row.get(usize::from(k)).copied().flatten()
 }
 
 /// Whether a transaction has written a key.
@@ -34,8 +31,5 @@ pub fn has_noted(x: &Transaction, k: KeyNumber) -> bool
 pub fn written_value(x: &Transaction, k: KeyNumber) -> StoredValue
     ensures { result ≡ written_value x.now k }
 {
-    match entry_at(&x.written, k) {
-        Some(value) => value,
-        None => 0,
-    }
+    entry_at(&x.written, k).unwrap_or(0)
 }

@@ -10,11 +10,7 @@ use calls::sizes::{KeyNumber, NodeNumber};
 pub(crate) fn holders(placement: &[u8], k: KeyNumber) -> u8
     ensures { result ≡ slice_index placement.now k }
 {
-    if usize::from(k) < placement.len() {
-        placement[usize::from(k)]
-    } else {
-        0
-    }
+    placement.get(usize::from(k)).copied().unwrap_or(0)
 }
 
 /// Whether a node holds a key.
@@ -39,12 +35,7 @@ fn is_placement(nodes: u8, placement: &[u8]) -> bool
     requires { nodes ≤ 8 }
     ensures { result ≡ all_placed nodes placement.now }
 {
-    for byte in placement {
-        if !names_holders(nodes, *byte) {
-            return false;
-        }
-    }
-    true
+    placement.iter().all(|byte| names_holders(nodes, *byte))
 }
 
 /// Whether counts and placement are those of a catalogue: one to eight nodes, one to 64 keys, and for each key a byte that names its holders.
@@ -52,8 +43,8 @@ pub fn can_make(nodes: u8, keys: u8, placement: &[u8]) -> bool
     ensures value { result ≡ can_make nodes keys placement.now }
     ensures bounds { result ≡ true → (1 ≤ nodes) × (nodes ≤ 8) × (length placement.now ≤ 64) }
 {
-    if nodes < 1 || nodes > 8 || keys < 1 || keys > 64 {
-        return false;
-    }
-    placement.len() == usize::from(keys) && is_placement(nodes, placement)
+    (1..=8).contains(&nodes)
+        && (1..=64).contains(&keys)
+        && placement.len() == usize::from(keys)
+        && is_placement(nodes, placement)
 }

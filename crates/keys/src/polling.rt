@@ -20,11 +20,7 @@ fn names(x: &Transaction, k: KeyNumber) -> bool
 pub fn polled(placement: &[u8], x: &Transaction) -> u8
     ensures { (w : World) → w.placement ≡ placement.now → result ≡ polled_byte w x.now }
 {
-    let mut byte: u8 = 0;
-    for k in 0..64 {
-        if names(x, k) {
-            byte |= holders(placement, k);
-        }
-    }
-    byte
+    (0..64)
+        .filter(|k| names(x, *k))
+        .fold(0, |byte, k| byte | holders(placement, k))
 }

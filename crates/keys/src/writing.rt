@@ -19,10 +19,5 @@ pub fn writes_key(placement: &[u8], x: &Transaction, p: NodeNumber, k: KeyNumber
 pub fn writes_at(placement: &[u8], x: &Transaction, p: NodeNumber) -> bool
     ensures { (w : World) → w.placement ≡ placement.now → result ≡ is_write_node w x.now p }
 {
-    for k in 0..64 {
-        if writes_key(placement, x, p, k) {
-            return true;
-        }
-    }
-    false
+    (0..64).any(|k| writes_key(placement, x, p, k))
 }

@@ -1,8 +1,11 @@
 -- The stamp of a commit and the commit clock, and how high they can be.
-use Rattle.std.proofs.Common.{◌≡◌, ℕ, ◌+◌, ◌^◌, ◌<◌, ◌≤◌, max, Bool, true, false, cond, ltb, List, [], length, get_or, set, Some, None, Option, sym, refl, ap, ◌∙◌, subst, arith, length-set, below_more}
+use Rattle.std.proofs.Common.{◌≡◌, ℕ, zero, suc, ◌+◌, ◌^◌, ◌<◌, ◌≤◌, max, true, cond, ltb, List, [], map, get_or, Some, None, Option, sym, refl, ◌∙◌, subst, arith, ⊎_elim}
 use Rattle.std.proofs.lemmas.List.FromFn.{fill_by_all}
-use Rattle.std.proofs.lemmas.List.{get_or-set_same, get_or-set_other}
-use Rattle.std.proofs.lemmas.Bool.{cond-true, cond_both, lt-ltb}
+use Rattle.std.proofs.lemmas.Bool.{cases_eq, cond-true, cond_both, lt-ltb}
+use Rattle.std.specs.Array.{IsFromFnResult, IsFromFnResultFrom}
+use Rattle.std.specs.Fn.{Called}
+use Rattle.std.specs.List.{range_with_len}
+use denote.Param.Members.{Mut}
 use Rattle.clock.specs.Clocks.{slot}
 use Rattle.clock.specs.Numbers.{highest, stamp_number, if_fits}
 use Rattle.clock.proofs.Least.{highest_below, some_leaves, least_leaving}
@@ -34,35 +37,9 @@ stamped_within w x number b low clock votes =
     (λ q. cond_both (is_write_node w x q) number (slot (base_clock x) q) (λ (n : ℕ). n ≤ b) (λ e. low) (λ e. base q))
 
 module _ (w : World) (t : ℕ) (x : Transaction) where
-  -- The stamp of an update that has write nodes.
-  pub stamp_told : (base : List ℕ) (o : Option ℕ) → true ≡ some_below 8 (is_write_node w x) → base ≡ base_clock x → o ≡ if_fits (stamp_number 256 x.numbers base t) → o ≡ if_fits (stamp_of w t x)
-  stamp_told base o writes same told =
-      told
-      ∙ ap (λ (c : List ℕ). if_fits (stamp_number 256 x.numbers c t)) same
-      ∙ sym (ap if_fits (cond-true (some_below 8 (is_write_node w x)) (stamp_number 256 x.numbers (base_clock x) t) 0 (sym writes)))
-
   -- The update committed, if the stamp fits.
   abbrev outcome : Option Transaction
   outcome = cond (ltb (stamp_of w t x) (2 ^ 32)) (Some (is_committed (stamp_of w t x) (stamped w x (stamp_of w t x)) x)) None
-
-  pub committed_some : (number : ℕ) (commit : List ℕ) (y : Transaction) → Some number ≡ if_fits (stamp_of w t x) → commit ≡ stamped w x number → y ≡ is_committed number commit x → Some y ≡ outcome
-  committed_some number commit y told clock is = go (ltb (stamp_of w t x) (2 ^ 32)) told
-    where
-      go : (fits : Bool) → Some number ≡ cond fits (Some (stamp_of w t x)) None → Some y ≡ cond fits (Some (is_committed (stamp_of w t x) (stamped w x (stamp_of w t x)) x)) None
-      go true e =
-          let same : number ≡ stamp_of w t x = cc in
-          ap Some
-          (is
-          ∙ ap (λ (row : List ℕ). is_committed number row x) clock
-          ∙ ap (λ (n : ℕ). is_committed n (stamped w x n) x) same)
-      go false e = let never : ◌≡◌ {A = ℕ} 0 1 = cc in absurd (omega arith)
-
-  pub committed_none : None ≡ if_fits (stamp_of w t x) → None ≡ outcome
-  committed_none told = go (ltb (stamp_of w t x) (2 ^ 32)) told
-    where
-      go : (fits : Bool) → None ≡ cond fits (Some (stamp_of w t x)) None → None ≡ cond fits (Some (is_committed (stamp_of w t x) (stamped w x (stamp_of w t x)) x)) None
-      go true e = let never : ◌≡◌ {A = ℕ} 0 1 = cc in absurd (omega arith)
-      go false e = refl
 
   -- Under a bound on the numbers of the update it fits.
   module _ (b : ℕ) (small : t < 256) (clock : ClockWithin b x.clock) (numbers : ClockWithin b x.numbers) (votes : ClockWithin b x.votes) where
@@ -84,30 +61,25 @@ module _ (w : World) (t : ℕ) (x : Transaction) where
       stamped_within w x (stamp_of w t x) (b + 256) stamp_low (λ q. let l = clock q in omega arith) (λ q. let l = votes q in omega arith),
     )
 
--- The commit clock as it is made: the slots below q are done, and the others are those of the base.
-abbrev pub StampedTo : (ℕ → Bool) → List ℕ → ℕ → List ℕ → ℕ → Type 0
-StampedTo test base number commit q =
-    (length commit ≡ 8)
-    × ((k : ℕ) → k < q → get_or commit k 0 ≡ cond (test k) number (slot base k))
-    × ((k : ℕ) → q ≤ k → get_or commit k 0 ≡ slot base k)
+-- What an array is whose elements a closure computes from their places.
+made_by : {F : Type 0} {g : Mut F (ℕ × Unit {0}) ℕ} {f : F} (h : ℕ → ℕ) (ys : List ℕ) (d n i : ℕ) → IsFromFnResultFrom g f ys i n → ((k y : ℕ) (q : F) → k < i + n → Called g f (k, tt) y q → (q ≡ f) × (y ≡ h k)) → (k : ℕ) → i ≤ k → k < i + n → get_or ys k d ≡ h k
+made_by h ys d zero i made computes k low high = absurd (omega arith)
+made_by {F} {g} {f} h ys d (suc n) i (q, y, here, called, rest) computes k low high =
+    let first = computes i y q (omega arith) called in
+    ⊎_elim
+    (λ (e : i ≡ k). rw (← e) (here.1 d ∙ first.1))
+    (λ (ne : i ≡ k → ⊥).
+    made_by {g = g} h ys d n (i + 1) (subst (λ (p : F). IsFromFnResultFrom g p ys (i + 1) n) first.0 rest) (λ j z p l c. computes j z p (omega arith) c) k (omega arith) (omega arith))
+    (cases_eq i k)
 
-stamped_here : (test : ℕ → Bool) (base : List ℕ) (number : ℕ) (commit : List ℕ) (q value : ℕ) → q < 8 → StampedTo test base number commit q → value ≡ cond (test q) number (get_or commit q 0) → StampedTo test base number (set commit q value) (q + 1)
-stamped_here test base number commit q value inside so_far is = (
-  length-set commit q value ∙ so_far.0,
-  below_more (λ k. get_or (set commit q value) k 0 ≡ cond (test k) number (slot base k)) q
-      (λ k l. get_or-set_other commit q k value 0 (omega arith) ∙ so_far.1 k l)
-      (get_or-set_same commit q value 0 (omega arith) ∙ is ∙ ap (cond (test q) number) (so_far.2 q (omega arith))),
-  λ k l. get_or-set_other commit q k value 0 (omega arith) ∙ so_far.2 k (omega arith),
-)
+made_all : {F : Type 0} {g : Mut F (ℕ × Unit {0}) ℕ} {f : F} (h : ℕ → ℕ) (ys : List ℕ) → IsFromFnResult g f ys 8 → ((k y : ℕ) (q : F) → k < 8 → Called g f (k, tt) y q → (q ≡ f) × (y ≡ h k)) → ys ≡ map h (range_with_len 0 8)
+made_all {g = g} h ys made computes =
+    fill_by_all h ys 8 0 made.long (λ k l. made_by {g = g} h ys 0 8 0 made.each computes k (omega arith) l)
 
-pub stamped_more : (test : ℕ → Bool) (base : List ℕ) (number : ℕ) (commit : List ℕ) (q value i j : ℕ) → q < 8 → StampedTo test base number commit q → i ≡ q → j ≡ q → value ≡ cond (test q) number (get_or commit i 0) → StampedTo test base number (set commit j value) (q + 1)
-stamped_more test base number commit q value i j inside so_far read written is =
-    subst (λ (n : ℕ). StampedTo test base number (set commit n value) (q + 1)) (sym written)
-    (stamped_here test base number commit q value inside so_far (is ∙ ap (λ (n : ℕ). cond (test q) number (get_or commit n 0)) read))
-
-pub stamped_all : (w : World) (x : Transaction) (number : ℕ) (commit : List ℕ) (q : ℕ) → 8 ≤ q → StampedTo (is_write_node w x) (base_clock x) number commit q → commit ≡ stamped w x number
+-- The commit clock, where a closure computes its slots.
+pub stamped_by : {F : Type 0} {g : Mut F (ℕ × Unit {0}) ℕ} {f : F} (w : World) (x : Transaction) (number : ℕ) (commit : List ℕ) → IsFromFnResult g f commit 8 → ((k y : ℕ) (q : F) → k < 8 → Called g f (k, tt) y q → (q ≡ f) × (y ≡ cond (is_write_node w x k) number (slot (base_clock x) k))) → commit ≡ stamped w x number
 unfolding stamped
-stamped_all w x number commit q end all = fill_by_all (λ i. cond (is_write_node w x i) number (slot (base_clock x) i)) commit 8 0 all.0 (λ k h. all.1 k (omega arith))
+stamped_by {g = g} w x number commit made computes = made_all {g = g} (λ k. cond (is_write_node w x k) number (slot (base_clock x) k)) commit made computes
 
 -- A world with this placement, and nothing else.
 abbrev placed : List ℕ → World

@@ -12,17 +12,13 @@ use calls::sizes::{NodeNumber, Stamp, TransactionNumber};
 use clock::{Clock, join, stamp};
 use keys::writing::writes_at;
 use rules::records::{State, Transaction};
+use std::array::from_fn;
 
 /// Whether an update writes at some node.
 fn has_write_node(placement: &[u8], x: &Transaction) -> bool
     ensures { (w : World) → w.placement ≡ placement.now → result ≡ some_below 8 (is_write_node w x.now) }
 {
-    for p in 0..8 {
-        if writes_at(placement, x, p) {
-            return true;
-        }
-    }
-    false
+    (0..8).any(|p| writes_at(placement, x, p))
 }
 
 /// The base of an update: the join of its clock and of the clocks that the votes carried.
@@ -54,9 +50,10 @@ fn commit_slot(
     ensures { (w : World) → w.placement ≡ placement.now → result ≡ (if is_write_node w x.now q then number else base) }
 {
     if writes_at(placement, x, q) {
-        return number;
+        number
+    } else {
+        base
     }
-    base
 }
 
 /// The commit clock of an update with this stamp. No slot is higher than the stamp and all slots that it is made from.
@@ -64,12 +61,8 @@ pub fn commit_clock_of(placement: &[u8], x: &Transaction, number: Stamp) -> Cloc
     ensures value { (w : World) → w.placement ≡ placement.now → result ≡ stamped w x.now number }
     ensures within { (b : ℕ) → number ≤ b → ((q : ℕ) → slot x.now.clock q ≤ b) → ((q : ℕ) → slot x.now.votes q ≤ b) → (q : ℕ) → slot result q ≤ b }
 {
-    let mut commit = base_clock(x);
-    for q in 0..8 {
-        let next = commit_slot(placement, x, q, number, commit[usize::from(q)]);
-        commit[usize::from(q)] = next;
-    }
-    commit
+    let base = base_clock(x);
+    from_fn(|q| commit_slot(placement, x, q as NodeNumber, number, base[q]))
 }
 
 /// An update with its stamp and its commit clock.
@@ -89,11 +82,7 @@ pub fn committed(placement: &[u8], t: TransactionNumber, x: Transaction) -> Opti
     ensures value { (w : World) → w.placement ≡ placement.now → result ≡ (if nat_lt (stamp_of w t x) (2 ^ 32) then Some (is_committed (stamp_of w t x) (stamped w x (stamp_of w t x)) x) else None) }
     ensures within { (w : World) → w.placement ≡ placement.now → (b : ℕ) → b + 256 < 2 ^ 32 → ((q : ℕ) → slot x.clock q ≤ b) → ((q : ℕ) → slot x.numbers q ≤ b) → ((q : ℕ) → slot x.votes q ≤ b) → (result ≡ Some (is_committed (stamp_of w t x) (stamped w x (stamp_of w t x)) x)) × (stamp_of w t x ≤ b + 256) × ((q : ℕ) → slot (stamped w x (stamp_of w t x)) q ≤ b + 256) }
 {
-    match stamp_of(placement, t, &x) {
-        Some(number) => {
-            let commit = commit_clock_of(placement, &x, number);
-            Some(with_commit(x, number, commit))
-        }
-        None => None,
-    }
+    let number = stamp_of(placement, t, &x)?;
+    let commit = commit_clock_of(placement, &x, number);
+    Some(with_commit(x, number, commit))
 }

@@ -1,5 +1,5 @@
 -- Whether another update blocks one at a node.
-use Rattle.std.proofs.Common.{◌≡◌, ℕ, ◌+◌, ◌-◌, ◌<◌, ◌≤◌, Bool, true, false, not, ◌&&◌, eqb, List, length, get_or, sym, refl, ap, ◌∙◌, arith, below_more}
+use Rattle.std.proofs.Common.{◌≡◌, ℕ, zero, suc, ◌+◌, ◌-◌, ◌<◌, ◌≤◌, Bool, true, false, not, ◌&&◌, ◌||◌, eqb, List, length, get_or, sym, refl, ap, ◌∙◌, arith, below_more}
 use Rattle.std.proofs.lemmas.List.{get_or_default}
 use Rattle.clock.specs.Clocks.{marked}
 use Rattle.rules.specs.declared.records.Kind.TheVariants.{Search}
@@ -7,7 +7,14 @@ use Rattle.rules.specs.declared.records.Transaction.{Transaction}
 use Rattle.rules.specs.World.{World, transaction, new_transaction, some_below}
 use Rattle.rules.specs.Voting.{conflict_at, blocks, busy}
 use Rattle.rules.proofs.States.{some_from}
-use Rattle.keys.proofs.Collecting.{none_below}
+
+or_false : (a b : Bool) → a ≡ false → b ≡ false → (a || b) ≡ false
+or_false a b p q = rw (p, q) refl
+
+-- A loop that stops at the first number that passes a test.
+none_below : (n : ℕ) (test : ℕ → Bool) → ((k : ℕ) → k < n → test k ≡ false) → some_below n test ≡ false
+none_below zero test none = refl
+none_below (suc n) test none = or_false (test n) (some_below n test) (none n (omega arith)) (none_below n test (λ k l. none k (omega arith)))
 
 -- What stands at i is the record of transaction i + 1.
 pub transaction_at : (w : World) (xs : List Transaction) (i : ℕ) (d : Transaction) → w.transactions ≡ xs → i < length xs → get_or xs i d ≡ transaction w (i + 1)

@@ -1,4 +1,4 @@
 pub mod Blocking
+pub mod Least
 pub mod Lowest
 pub mod Puts
-pub mod Records

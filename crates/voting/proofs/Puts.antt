@@ -1,13 +1,10 @@
--- Loops that put versions, and that look for the update to apply.
-use Rattle.std.proofs.Common.{◌≡◌, ℕ, ◌+◌, ◌<◌, List, [], ◌∷◌, ◌++◌, length, get_or, take, fold, sym, refl, ap, ◌∙◌, add-one, arith}
-use Rattle.std.specs.List.{range_with_len}
+-- A loop that puts versions.
+use Rattle.std.proofs.Common.{◌≡◌, ℕ, ◌+◌, ◌<◌, List, [], ◌∷◌, ◌++◌, length, get_or, take, sym, refl, ap, ◌∙◌}
 use Rattle.std.proofs.lemmas.List.{take_more}
-use Rattle.std.proofs.lemmas.List.Sums.{fold_push}
 use Rattle.store.specs.Model.{Meaning, put_after}
 use Rattle.rules.specs.declared.records.Transaction.{Transaction}
 use Rattle.rules.specs.World.{written_value}
 use Rattle.rules.specs.Applying.{put_all}
-use Rattle.keys.proofs.Collecting.{counting_more}
 
 module _ (p t : ℕ) (x : Transaction) where
   -- One key more at the end of the list.
@@ -24,11 +21,3 @@ module _ (p t : ℕ) (x : Transaction) where
   put_more m w ks i inside so_far =
       ap (λ (v : Meaning). put_after v p (get_or ks i 0) (record { value = written_value x (get_or ks i 0); writer = t })) so_far
       ∙ sym (ap (put_all m p t x) (take_more ks i 0 inside) ∙ put_push m (take i ks) (get_or ks i 0))
-
--- A turn of a loop that folds over the transactions' numbers.
-pub folded_next : {B : Type 0} (f : B → ℕ → B) (a b : B) (i : ℕ) → b ≡ fold f a (range_with_len 1 i) → f b (i + 1) ≡ fold f a (range_with_len 1 (i + 1))
-folded_next {B} f a b i so_far =
-    ap (λ (v : B). f v (i + 1)) so_far
-    ∙ sym (ap (λ (n : ℕ). fold f a (range_with_len 1 n)) (add-one i)
-    ∙ ap (fold f a) (counting_more 1 i ∙ ap (λ (n : ℕ). range_with_len 1 i ++ n ∷ []) (omega arith))
-    ∙ fold_push f a (range_with_len 1 i) (i + 1))

@@ -44,8 +44,7 @@ pub fn is_busy(
     ensures { (w : World) → w.transactions ≡ transactions.now → w.placement ≡ placement.now → x.now ≡ transaction w t → result ≡ busy w t p }
 {
     let mut found = false;
-    'transactions: for i in 0..transactions.len() {
-        let other = &transactions[i];
+    'transactions: for (i, other) in transactions.iter().enumerate() {
         if !is_rival(t, i + 1, other, p) {
             continue;
         }

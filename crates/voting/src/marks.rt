@@ -18,8 +18,5 @@ pub(crate) fn is_engaged(x: &Transaction, p: NodeNumber) -> bool
 pub(crate) fn number_at(x: &Transaction, p: NodeNumber) -> Stamp
     ensures { result ≡ slot x.now.numbers p }
 {
-    match x.numbers.get(usize::from(p)) {
-        Some(number) => *number,
-        None => 0,
-    }
+    x.numbers.get(usize::from(p)).copied().unwrap_or(0)
 }

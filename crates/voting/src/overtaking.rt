@@ -14,10 +14,7 @@ fn newest_writer<S: VersionStore>(store: &S, p: NodeNumber, k: KeyNumber) -> Tra
     requires { (p < 8) × (k < 64) }
     ensures { result ≡ newest_writer (S.VersionStore.meaning store.now p k).versions }
 {
-    match store.newest(p, k) {
-        Some((_, writer)) => writer,
-        None => 0,
-    }
+    store.newest(p, k).map_or(0, |(_, writer)| writer)
 }
 
 /// Whether a node holds a newer version of a key than the one that an update has noted.
@@ -31,10 +28,10 @@ fn is_overtaken<S: VersionStore>(
     requires { k < 64 }
     ensures { (w : World) → w.placement ≡ placement.now → w.store ≡ S.VersionStore.meaning store.now → result ≡ overtaken_at w x.now p k }
 {
-    match x.noted[usize::from(k)] {
-        Some(writer) => holds(placement, p, k) && newest_writer(store, p, k) != writer,
-        None => false,
-    }
+    let Some(writer) = x.noted[usize::from(k)] else {
+        return false;
+    };
+    holds(placement, p, k) && newest_writer(store, p, k) != writer
 }
 
 /// The lowest key that an update has noted and of which a node holds a newer version.
@@ -46,10 +43,5 @@ pub fn overtaken<S: VersionStore>(
 ) -> Option<KeyNumber>
     ensures { (w : World) → w.placement ≡ placement.now → w.store ≡ S.VersionStore.meaning store.now → result ≡ overtaken_key w x.now p }
 {
-    for k in 0..64 {
-        if is_overtaken(placement, store, x, p, k) {
-            return Some(k);
-        }
-    }
-    None
+    (0..64).find(|k| is_overtaken(placement, store, x, p, *k))
 }

@@ -26,22 +26,8 @@ pub fn set_places<S: VersionStore>(
     ensures after { (w : World) → w.placement ≡ placement.now → S.VersionStore.meaning store.new ≡ if_ok result (all_aside (S.VersionStore.meaning store.old) p (written_at w x.now p)) (S.VersionStore.meaning store.old) }
     ensures rule { S.VersionStore.free store.new ≡ S.VersionStore.free store.old }
 {
-    let (keys, count) = written_keys(placement, x, p);
-    set_aside_all(store, p, &keys[0..count])
-}
-
-/// Gives back a place for each key that an update writes and that a node holds.
-fn give_back_written<S: VersionStore>(
-    placement: &[u8],
-    store: &mut S,
-    p: NodeNumber,
-    x: &Transaction,
-)
-    ensures after { (w : World) → w.placement ≡ placement.now → S.VersionStore.meaning store.new ≡ all_back (S.VersionStore.meaning store.old) p (written_at w x.now p) }
-    ensures rule { S.VersionStore.free store.new ≡ S.VersionStore.free store.old }
-{
-    let (keys, count) = written_keys(placement, x, p);
-    give_back_all(store, p, &keys[0..count]);
+    let keys = written_keys(placement, x, p);
+    set_aside_all(store, p, keys.as_slice())
 }
 
 /// Gives back the places that a node set aside for an update that is engaged there.
@@ -50,7 +36,8 @@ pub fn give_back<S: VersionStore>(placement: &[u8], store: &mut S, p: NodeNumber
     ensures rule { S.VersionStore.free store.new ≡ S.VersionStore.free store.old }
 {
     if is_engaged(x, p) {
-        give_back_written(placement, store, p, x);
+        let keys = written_keys(placement, x, p);
+        give_back_all(store, p, keys.as_slice());
     }
 }
 
@@ -88,6 +75,6 @@ pub fn put_written<S: VersionStore>(
     ensures after { (w : World) → w.placement ≡ placement.now → S.VersionStore.meaning store.new ≡ put_all (S.VersionStore.meaning store.old) p t x.now (written_at w x.now p) }
     ensures rule { S.VersionStore.free store.new ≡ S.VersionStore.free store.old }
 {
-    let (keys, count) = written_keys(placement, x, p);
-    put_all(store, p, t, x, &keys[0..count]);
+    let keys = written_keys(placement, x, p);
+    put_all(store, p, t, x, keys.as_slice());
 }

@@ -1,16 +1,10 @@
-use Rattle.std.proofs.Common.{sym, ap, ◌∙◌}
-use Rattle.std.proofs.lemmas.List.{drop_all}
-use Rattle.rules.specs.Steps.{all_placed}
-use Rattle.keys.proofs.Placed.{placed_on, placed_not}
+use Rattle.std.proofs.Common.{rules, tests, ◌∙◌, ◌^◌, ◌&&◌, nat_lt}
+use Rattle.std.proofs.lemmas.Iterator.{YieldsList-from_slice}
+use Rattle.std.proofs.lemmas.Iterator.Search.{all_from_yields_List}
+use Rattle.keys.proofs.Chains.{all_is_placed}
 use Rattle.keys.proofs.placing.is_placement.Goals as goal
 
-pub returns-then-not-names_holders : goal.returns-then-not-names_holders
-returns-then-not-names_holders c =
-    sym (c.loop-byte.invariant ∙ placed_not c.args.nodes c.args.placement.now c.loop-byte.byte-index c.loop-byte-test.true (sym c.names_holders.ensures ∙ c.if-not-names_holders.true))
-
-pub loop-byte-preserved : goal.loop-byte-preserved
-loop-byte-preserved c =
-    c.loop-byte.invariant ∙ placed_on c.args.nodes c.args.placement.now c.loop-byte.byte-index c.loop-byte-test.true (sym c.names_holders.ensures ∙ c.if-not-names_holders.false)
-
 pub returns : goal.returns
-returns c = sym (c.loop-byte.invariant ∙ ap (all_placed c.args.nodes) (drop_all c.loop-byte.byte-index c.args.placement.now c.loop-byte-test.false))
+returns c =
+    all_from_yields_List (λ byte. nat_lt 0 byte && nat_lt byte (2 ^ c.args.nodes)) _ _ _ c.all.ensures.ran (YieldsList-from_slice c.args.placement.now cc) (λ x b q k. search (rules, tests))
+    ∙ all_is_placed c.args.nodes c.args.placement.now
