@@ -1,5 +1,5 @@
 -- What is answered where a ticket is given out, and where one is handed in to be decided.
-use Rattle.std.specs.Prelude.{ℕ, Bool, true, false, if◌then◌else◌, Ok, Err, Result}
+use Rattle.std.specs.Prelude.{ℕ, Ok, Err, Result}
 use Rattle.calls.specs.declared.answer.Answer.{Answer}
 use Rattle.calls.specs.declared.answer.Answer.TheVariants.{Begun, Aborted, Refused}
 use Rattle.calls.specs.declared.refusal.Refusal.{Refusal}
@@ -12,14 +12,10 @@ abbrev pub began : {Ticket : Type 0} → (Ticket → ℕ) → Result Ticket Refu
 began transaction (Ok ticket) = Begun (transaction ticket)
 began transaction (Err refusal) = Refused refusal
 
--- An answer is the refusal for outstanding votes.
-abbrev pub are_votes_outstanding : Answer → Bool
-are_votes_outstanding (Refused VotesOutstanding) = true
-are_votes_outstanding answer = false
-
--- A decide that is not refused for outstanding votes stands as it is. In place of one that is, the update is cancelled, and the answer is abort.
+-- In place of a decide that is refused for outstanding votes, the update is cancelled, and the answer is abort. Any other stands as it is.
 abbrev pub or_cancel : World → ℕ → Outcome → Outcome
-or_cancel w t decided = if are_votes_outstanding decided.0 then (Aborted, (cancel_call w t).1) else decided
+or_cancel w t (Refused VotesOutstanding, after) = (Aborted, (cancel_call w t).1)
+or_cancel w t decided = decided
 
 -- Decide by ticket.
 abbrev pub decide_ticket_call : World → ℕ → Outcome

@@ -1,11 +1,11 @@
 //! A ticket, and what can be done with it.
 
 ghost use Rattle.std.specs.Prelude.{◌≡◌, true};
-ghost use Rattle.rules.specs.Deciding.{begin_call, cancel_call, decide_call, finish_call, offer_call};
+ghost use Rattle.rules.specs.Deciding.{begin_call, cancel_call, finish_call, offer_call};
 ghost use Rattle.rules.specs.Reading.{read_call, write_call};
 ghost use Rattle.catalogue.specs.Tables.{world_of};
 ghost use Rattle.catalogue.specs.Replies.{decided, done, found, polled};
-ghost use Rattle.tickets.specs.Handing.{are_votes_outstanding, began, decide_ticket_call};
+ghost use Rattle.tickets.specs.Handing.{began, decide_ticket_call};
 
 use crate::kinds::{Begin, Cancel, Offered, Search, TicketKind, Update};
 use calls::refusal::Refusal;
@@ -148,27 +148,16 @@ impl UpdateTicket {
     }
 }
 
-/// Decides an update by its number. Where votes are outstanding, nothing changes.
-fn decide_by_number<S: VersionStore>(
-    catalogue: &mut Catalogue<S>,
-    t: TransactionNumber,
-) -> Result<Decision, Refusal>
-    ensures step { (decided result, world_of catalogue.new.table (S.VersionStore.meaning catalogue.new.store)) ≡ decide_call (world_of catalogue.old.table (S.VersionStore.meaning catalogue.old.store)) t }
-    ensures same { are_votes_outstanding (decided result) ≡ true → world_of catalogue.new.table (S.VersionStore.meaning catalogue.new.store) ≡ world_of catalogue.old.table (S.VersionStore.meaning catalogue.old.store) }
-    ensures rule { S.VersionStore.free catalogue.new.store ≡ S.VersionStore.free catalogue.old.store }
-{
-    catalogue.decide(t)
-}
-
 impl OfferedTicket {
     /// Commits or aborts the update by the votes of its nodes. Where some are outstanding it is cancelled, and the answer is that it
     /// is aborted.
+    #[tactic(auto, using(crate::proofs::Outstanding::refused_keeps))]
     pub fn decide<S: VersionStore>(self, catalogue: &mut Catalogue<S>) -> Result<Decision, Refusal>
         ensures step { (decided result, world_of catalogue.new.table (S.VersionStore.meaning catalogue.new.store)) ≡ decide_ticket_call (world_of catalogue.old.table (S.VersionStore.meaning catalogue.old.store)) self.transaction }
         ensures rule { S.VersionStore.free catalogue.new.store ≡ S.VersionStore.free catalogue.old.store }
     {
         let t = self.hand_in();
-        match decide_by_number(catalogue, t) {
+        match catalogue.decide(t) {
             Err(Refusal::VotesOutstanding) => {
                 let _ = catalogue.cancel(t);
                 Ok(Decision::Aborted)
