@@ -5,7 +5,7 @@
 mod folders;
 mod report;
 mod scenes;
-mod steps;
+mod story;
 
 use anyhow::anyhow;
 use catalogue::catalogue::Catalogue;
@@ -15,20 +15,26 @@ use roll::Roll;
 use scenes::{file_document, move_document, move_in_vain};
 use shelf::Shelf;
 use store::VersionStore;
+use story::Story;
 
 /// Tells the story over a new store.
 fn tell<S: VersionStore>(rt: &HostRuntime) -> anyhow::Result<()> {
-    let Ok(mut catalogue) = Catalogue::<S>::make(rt.alloc(), 2, 2, &PLACEMENT) else {
+    let Ok(catalogue) = Catalogue::<S>::make(rt.alloc(), 2, 2, &PLACEMENT) else {
         return Err(anyhow!("no catalogue was made"));
     };
-    let mut report = Report::new(rt);
-    report.title("The document is filed in folder A.");
-    file_document(&mut report, &mut catalogue);
-    report.title("Two Searches look for it while it is moved to folder B.");
-    move_document(&mut report, &mut catalogue);
-    report.title("Three moves back come to nothing.");
-    move_in_vain(&mut report, &mut catalogue);
-    report.end()?;
+    let mut story = Story {
+        report: Report::new(rt),
+        catalogue,
+    };
+    story.report.title("The document is filed in folder A.");
+    file_document(&mut story);
+    story
+        .report
+        .title("Two Searches look for it while it is moved to folder B.");
+    move_document(&mut story);
+    story.report.title("Three moves back come to nothing.");
+    move_in_vain(&mut story);
+    story.report.end()?;
     Ok(())
 }
 

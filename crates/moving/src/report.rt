@@ -1,6 +1,7 @@
 //! Prints each step with its answer.
 
 use calls::answer::Answer;
+use std::fmt::Display;
 use std::io;
 
 /// Where the steps are printed. That a line could not be printed is told at the end only: a step that returned at once would let go of
@@ -27,7 +28,7 @@ impl<'a> Report<'a> {
     }
 
     /// What is done, and the answer to it.
-    pub(crate) fn step(&mut self, what: &str, answer: Answer) {
+    pub(crate) fn step(&mut self, what: impl Display + Drop, answer: Answer) {
         if self.printed.is_ok() {
             self.printed = println!(self.rt; "  {what}: {answer}");
         }

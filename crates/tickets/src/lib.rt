@@ -1,8 +1,6 @@
 //! Tickets: a transaction that is begun by ticket has to be ended, or the program is not proved.
 #![tactic(auto)]
 
-pub mod offered;
-pub mod reader;
+pub mod kinds;
 mod sealed;
 pub mod ticket;
-pub mod update;

@@ -1,4 +1,4 @@
-//! What keeps other crates from making tickets of their own.
+//! What keeps other crates from making kinds of tickets.
 
-/// Implemented for the tickets of this crate, and nameable nowhere else.
+/// Implemented for the kinds of this crate, and nameable nowhere else.
 pub trait Sealed {}
