@@ -3,7 +3,7 @@
 ghost use Rattle.std.specs.Prelude.{◌≡◌, true};
 ghost use Rattle.rules.specs.Deciding.{begin_call, cancel_call, finish_call, offer_call};
 ghost use Rattle.rules.specs.Reading.{read_call, write_call};
-ghost use Rattle.catalogue.specs.Tables.{world_of};
+ghost use Rattle.catalogue.specs.Tables.{world};
 ghost use Rattle.catalogue.specs.Replies.{decided, done, found, polled};
 ghost use Rattle.tickets.specs.Handing.{began, decide_ticket_call};
 
@@ -80,8 +80,8 @@ impl<K: TicketKind> Ticket<K> {
         p: NodeNumber,
     ) -> Result<(StoredValue, TransactionNumber), Refusal>
         requires { K.reads ≡ true }
-        ensures step { (found result, world_of catalogue.new.table (S.VersionStore.meaning catalogue.new.store)) ≡ read_call (world_of catalogue.old.table (S.VersionStore.meaning catalogue.old.store)) self.now.transaction k p }
-        ensures rule { S.VersionStore.free catalogue.new.store ≡ S.VersionStore.free catalogue.old.store }
+        ensures step { (found result, world S.meaning catalogue.new) ≡ read_call (world S.meaning catalogue.old) self.now.transaction k p }
+        ensures rule { S.free catalogue.new.store ≡ S.free catalogue.old.store }
     {
         catalogue.read(self.transaction, k, p)
     }
@@ -94,8 +94,8 @@ impl<K: TicketKind> Ticket<K> {
         value: StoredValue,
     ) -> Result<(), Refusal>
         requires { K.writes ≡ true }
-        ensures step { (done result, world_of catalogue.new.table (S.VersionStore.meaning catalogue.new.store)) ≡ write_call (world_of catalogue.old.table (S.VersionStore.meaning catalogue.old.store)) self.now.transaction k value }
-        ensures rule { S.VersionStore.free catalogue.new.store ≡ S.VersionStore.free catalogue.old.store }
+        ensures step { (done result, world S.meaning catalogue.new) ≡ write_call (world S.meaning catalogue.old) self.now.transaction k value }
+        ensures rule { S.free catalogue.new.store ≡ S.free catalogue.old.store }
     {
         catalogue.write(self.transaction, k, value)
     }
@@ -104,8 +104,8 @@ impl<K: TicketKind> Ticket<K> {
 impl<K: Begin> Ticket<K> {
     /// Begins a transaction. Where all numbers are begun, there is no ticket.
     pub fn begin<S: VersionStore>(catalogue: &mut Catalogue<S>) -> Result<Ticket<K>, Refusal>
-        ensures step { (began (λ ticket. ticket.transaction) result, world_of catalogue.new.table (S.VersionStore.meaning catalogue.new.store)) ≡ begin_call (world_of catalogue.old.table (S.VersionStore.meaning catalogue.old.store)) K.KIND }
-        ensures rule { S.VersionStore.free catalogue.new.store ≡ S.VersionStore.free catalogue.old.store }
+        ensures step { (began (λ ticket. ticket.transaction) result, world S.meaning catalogue.new) ≡ begin_call (world S.meaning catalogue.old) K.KIND }
+        ensures rule { S.free catalogue.new.store ≡ S.free catalogue.old.store }
     {
         Ok(Ticket::new(catalogue.begin(K::KIND)?))
     }
@@ -114,8 +114,8 @@ impl<K: Begin> Ticket<K> {
 impl<K: Cancel> Ticket<K> {
     /// Aborts the update.
     pub fn cancel<S: VersionStore>(self, catalogue: &mut Catalogue<S>) -> Result<(), Refusal>
-        ensures step { (done result, world_of catalogue.new.table (S.VersionStore.meaning catalogue.new.store)) ≡ cancel_call (world_of catalogue.old.table (S.VersionStore.meaning catalogue.old.store)) self.transaction }
-        ensures rule { S.VersionStore.free catalogue.new.store ≡ S.VersionStore.free catalogue.old.store }
+        ensures step { (done result, world S.meaning catalogue.new) ≡ cancel_call (world S.meaning catalogue.old) self.transaction }
+        ensures rule { S.free catalogue.new.store ≡ S.free catalogue.old.store }
     {
         catalogue.cancel(self.hand_in())
     }
@@ -124,8 +124,8 @@ impl<K: Cancel> Ticket<K> {
 impl SearchTicket {
     /// Ends the `Search`.
     pub fn finish<S: VersionStore>(self, catalogue: &mut Catalogue<S>) -> Result<(), Refusal>
-        ensures step { (done result, world_of catalogue.new.table (S.VersionStore.meaning catalogue.new.store)) ≡ finish_call (world_of catalogue.old.table (S.VersionStore.meaning catalogue.old.store)) self.transaction }
-        ensures rule { S.VersionStore.free catalogue.new.store ≡ S.VersionStore.free catalogue.old.store }
+        ensures step { (done result, world S.meaning catalogue.new) ≡ finish_call (world S.meaning catalogue.old) self.transaction }
+        ensures rule { S.free catalogue.new.store ≡ S.free catalogue.old.store }
     {
         catalogue.finish(self.hand_in())
     }
@@ -138,9 +138,9 @@ impl UpdateTicket {
         self,
         catalogue: &mut Catalogue<S>,
     ) -> (OfferedTicket, Result<u8, Refusal>)
-        ensures step { (polled result.1, world_of catalogue.new.table (S.VersionStore.meaning catalogue.new.store)) ≡ offer_call (world_of catalogue.old.table (S.VersionStore.meaning catalogue.old.store)) self.transaction }
+        ensures step { (polled result.1, world S.meaning catalogue.new) ≡ offer_call (world S.meaning catalogue.old) self.transaction }
         ensures same { result.0.transaction ≡ self.transaction }
-        ensures rule { S.VersionStore.free catalogue.new.store ≡ S.VersionStore.free catalogue.old.store }
+        ensures rule { S.free catalogue.new.store ≡ S.free catalogue.old.store }
     {
         let t = self.hand_in();
         let polls = catalogue.offer(t);
@@ -153,8 +153,8 @@ impl OfferedTicket {
     /// is aborted.
     #[tactic(auto, using(crate::proofs::Outstanding::refused_keeps))]
     pub fn decide<S: VersionStore>(self, catalogue: &mut Catalogue<S>) -> Result<Decision, Refusal>
-        ensures step { (decided result, world_of catalogue.new.table (S.VersionStore.meaning catalogue.new.store)) ≡ decide_ticket_call (world_of catalogue.old.table (S.VersionStore.meaning catalogue.old.store)) self.transaction }
-        ensures rule { S.VersionStore.free catalogue.new.store ≡ S.VersionStore.free catalogue.old.store }
+        ensures step { (decided result, world S.meaning catalogue.new) ≡ decide_ticket_call (world S.meaning catalogue.old) self.transaction }
+        ensures rule { S.free catalogue.new.store ≡ S.free catalogue.old.store }
     {
         let t = self.hand_in();
         match catalogue.decide(t) {

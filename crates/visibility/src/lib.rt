@@ -91,8 +91,8 @@ fn newest_passing<S: VersionStore>(
     k: KeyNumber,
     p: NodeNumber,
 ) -> Seen
-    ensures version { (w : World) → w.transactions ≡ transactions.now → result.version ≡ newest_passing (λ v. passes read (commit_clock w v.writer) clock) (if in_range p k then (S.VersionStore.meaning store.now p k).versions else []) }
-    ensures newest { (w : World) → w.transactions ≡ transactions.now → result.newest ≡ newest_passes (λ v. passes read (commit_clock w v.writer) clock) (if in_range p k then (S.VersionStore.meaning store.now p k).versions else []) }
+    ensures version { (w : World) → w.transactions ≡ transactions.now → result.version ≡ newest_passing (λ v. passes read (commit_clock w v.writer) clock) (if in_range p k then (S.meaning store.now p k).versions else []) }
+    ensures newest { (w : World) → w.transactions ≡ transactions.now → result.newest ≡ newest_passes (λ v. passes read (commit_clock w v.writer) clock) (if in_range p k then (S.meaning store.now p k).versions else []) }
 {
     let mut steps: usize = 0;
     while let Some((value, writer)) = store.nth(p, k, steps) {
@@ -113,8 +113,8 @@ pub fn visible<S: VersionStore>(
     k: KeyNumber,
     p: NodeNumber,
 ) -> Seen
-    ensures version { (w : World) → w.transactions ≡ transactions.now → w.store ≡ S.VersionStore.meaning store.now → clock ≡ clock_after w x.now p → p < 8 → k < 64 → result.version ≡ visible w x.now k p }
-    ensures newest { (w : World) → w.transactions ≡ transactions.now → w.store ≡ S.VersionStore.meaning store.now → clock ≡ clock_after w x.now p → p < 8 → k < 64 → result.newest ≡ newest_passes (version_passes w x.now p) (w.store p k).versions }
+    ensures version { (w : World) → w.transactions ≡ transactions.now → w.store ≡ S.meaning store.now → clock ≡ clock_after w x.now p → p < 8 → k < 64 → result.version ≡ visible w x.now k p }
+    ensures newest { (w : World) → w.transactions ≡ transactions.now → w.store ≡ S.meaning store.now → clock ≡ clock_after w x.now p → p < 8 → k < 64 → result.newest ≡ newest_passes (version_passes w x.now p) (w.store p k).versions }
 {
     newest_passing(
         transactions,

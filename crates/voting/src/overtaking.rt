@@ -12,7 +12,7 @@ use store::VersionStore;
 /// The writer of the newest version of a key at a node.
 fn newest_writer<S: VersionStore>(store: &S, p: NodeNumber, k: KeyNumber) -> TransactionNumber
     requires { (p < 8) × (k < 64) }
-    ensures { result ≡ newest_writer (S.VersionStore.meaning store.now p k).versions }
+    ensures { result ≡ newest_writer (S.meaning store.now p k).versions }
 {
     store.newest(p, k).map_or(0, |(_, writer)| writer)
 }
@@ -26,7 +26,7 @@ fn is_overtaken<S: VersionStore>(
     k: KeyNumber,
 ) -> bool
     requires { k < 64 }
-    ensures { (w : World) → w.placement ≡ placement.now → w.store ≡ S.VersionStore.meaning store.now → result ≡ overtaken_at w x.now p k }
+    ensures { (w : World) → w.placement ≡ placement.now → w.store ≡ S.meaning store.now → result ≡ overtaken_at w x.now p k }
 {
     let Some(writer) = x.noted[usize::from(k)] else {
         return false;
@@ -41,7 +41,7 @@ pub fn overtaken<S: VersionStore>(
     x: &Transaction,
     p: NodeNumber,
 ) -> Option<KeyNumber>
-    ensures { (w : World) → w.placement ≡ placement.now → w.store ≡ S.VersionStore.meaning store.now → result ≡ overtaken_key w x.now p }
+    ensures { (w : World) → w.placement ≡ placement.now → w.store ≡ S.meaning store.now → result ≡ overtaken_key w x.now p }
 {
     (0..64).find(|k| is_overtaken(placement, store, x, p, *k))
 }

@@ -22,9 +22,9 @@ pub fn set_places<S: VersionStore>(
     x: &Transaction,
     p: NodeNumber,
 ) -> Result<(), KeyNumber>
-    ensures answer { (w : World) → w.placement ≡ placement.now → result ≡ first_refused (S.VersionStore.free store.old) (S.VersionStore.meaning store.old) p (written_at w x.now p) }
-    ensures after { (w : World) → w.placement ≡ placement.now → S.VersionStore.meaning store.new ≡ if_ok result (all_aside (S.VersionStore.meaning store.old) p (written_at w x.now p)) (S.VersionStore.meaning store.old) }
-    ensures rule { S.VersionStore.free store.new ≡ S.VersionStore.free store.old }
+    ensures answer { (w : World) → w.placement ≡ placement.now → result ≡ first_refused (S.free store.old) (S.meaning store.old) p (written_at w x.now p) }
+    ensures after { (w : World) → w.placement ≡ placement.now → S.meaning store.new ≡ if_ok result (all_aside (S.meaning store.old) p (written_at w x.now p)) (S.meaning store.old) }
+    ensures rule { S.free store.new ≡ S.free store.old }
 {
     let keys = written_keys(placement, x, p);
     set_aside_all(store, p, keys.as_slice())
@@ -32,8 +32,8 @@ pub fn set_places<S: VersionStore>(
 
 /// Gives back the places that a node set aside for an update that is engaged there.
 pub fn give_back<S: VersionStore>(placement: &[u8], store: &mut S, p: NodeNumber, x: &Transaction)
-    ensures after { (w : World) → w.placement ≡ placement.now → S.VersionStore.meaning store.new ≡ (if marked x.now.engaged p then all_back (S.VersionStore.meaning store.old) p (written_at w x.now p) else S.VersionStore.meaning store.old) }
-    ensures rule { S.VersionStore.free store.new ≡ S.VersionStore.free store.old }
+    ensures after { (w : World) → w.placement ≡ placement.now → S.meaning store.new ≡ (if marked x.now.engaged p then all_back (S.meaning store.old) p (written_at w x.now p) else S.meaning store.old) }
+    ensures rule { S.free store.new ≡ S.free store.old }
 {
     if is_engaged(x, p) {
         let keys = written_keys(placement, x, p);
@@ -49,8 +49,8 @@ fn put_all<S: VersionStore>(
     x: &Transaction,
     keys: &[KeyNumber],
 )
-    ensures after { S.VersionStore.meaning store.new ≡ put_all (S.VersionStore.meaning store.old) p t x.now keys.now }
-    ensures rule { S.VersionStore.free store.new ≡ S.VersionStore.free store.old }
+    ensures after { S.meaning store.new ≡ put_all (S.meaning store.old) p t x.now keys.now }
+    ensures rule { S.free store.new ≡ S.free store.old }
 {
     for k in keys {
         let _ = store.put(
@@ -72,8 +72,8 @@ pub fn put_written<S: VersionStore>(
     t: TransactionNumber,
     x: &Transaction,
 )
-    ensures after { (w : World) → w.placement ≡ placement.now → S.VersionStore.meaning store.new ≡ put_all (S.VersionStore.meaning store.old) p t x.now (written_at w x.now p) }
-    ensures rule { S.VersionStore.free store.new ≡ S.VersionStore.free store.old }
+    ensures after { (w : World) → w.placement ≡ placement.now → S.meaning store.new ≡ put_all (S.meaning store.old) p t x.now (written_at w x.now p) }
+    ensures rule { S.free store.new ≡ S.free store.old }
 {
     let keys = written_keys(placement, x, p);
     put_all(store, p, t, x, keys.as_slice());

@@ -23,9 +23,7 @@ impl<S: VersionStore> Catalogue<S> {
         ensures rule { S.free self.new.store ≡ S.free self.old.store }
     {
         let n = self.table.node(p)?;
-        let Some(t) = self.table.least_waiting(p) else {
-            return Err(Refusal::NothingToApply);
-        };
+        let t = self.table.least_waiting(p).ok_or(Refusal::NothingToApply)?;
         let x = self.table.record(t);
         if !x.learned[usize::from(p)] {
             return Err(Refusal::NotLearned);
