@@ -24,9 +24,7 @@ pub fn file_at<S: VersionStore>(
     ensures after { S.meaning store.new ≡ filed_after (S.free store.old) (S.meaning store.old) first second key version }
     ensures rule { S.free store.new ≡ S.free store.old }
 {
-    if store.set_aside(first, key).is_err() {
-        return Err(first);
-    }
+    store.set_aside(first, key).map_err(|_| first)?;
     if store.set_aside(second, key).is_err() {
         let _ = store.give_back(first, key);
         return Err(second);
