@@ -60,6 +60,7 @@ fn with_all_passing(x: &Transaction, p: NodeNumber, transactions: &[Transaction]
 }
 
 /// The clock of a transaction after a read at a node. No slot is higher than all of those that it is made from.
+#[tactic(auto, using(crate::proofs::Clocks::clock_again, crate::proofs::Clocks::clock_first))]
 pub fn clock_after(x: &Transaction, p: NodeNumber, transactions: &[Transaction]) -> Clock
     ensures value { (w : World) → w.transactions ≡ transactions.now → result ≡ clock_after w x.now p }
     ensures within { (b : ℕ) → ((q : ℕ) → slot x.now.clock q ≤ b) → ((i q : ℕ) → slot (slice_index_or transactions.now i (new_transaction Search)).commit q ≤ b) → (q : ℕ) → slot result q ≤ b }
