@@ -10,7 +10,7 @@ use rules::records::Transaction;
 fn entry_at<T: Copy>(row: &[Option<T>], k: KeyNumber) -> Option<T>
     ensures { result ≡ slice_index_or row.now k None }
 {
-    row.get(usize::from(k)).copied().flatten()
+    *row.get(usize::from(k))?
 }
 
 /// Whether a transaction has written a key.
