@@ -8,7 +8,7 @@ use calls::sizes::{KeyNumber, NodeNumber};
 use rules::records::Transaction;
 use std::marker::Model;
 
-/// At most 64 keys, in a row that has room for them all.
+/// At most 64 keys, in a row that has room for them all: no call takes memory.
 #[derive(Drop)]
 pub struct WrittenKeys {
     row: [KeyNumber; 64],
