@@ -39,10 +39,7 @@ fn show_written(rt: &HostRuntime, calls: &[Call<'_>]) -> anyhow::Result<()> {
     let mut buffer = [0u8; 6];
     match write_tape(calls, &mut buffer) {
         Ok(len) => println!(rt; "{len} bytes")?,
-        Err(refusal) => {
-            let number = refusal.number();
-            println!(rt; "refused {number}")?;
-        }
+        Err(refusal) => println!(rt; "{refusal}")?,
     }
     Ok(())
 }

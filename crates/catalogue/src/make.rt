@@ -30,6 +30,7 @@ impl From<AllocError> for MakeError {
     }
 }
 
+// A push that fails gives its value back, another call does not: the library has two types for want of memory.
 impl<T: Drop> From<AllocFailed<T>> for MakeError {
     ghost from_gives = { λ _ r. r ≡ OutOfMemory };
 

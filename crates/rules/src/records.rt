@@ -64,6 +64,9 @@ pub struct Node {
 }
 
 /// A transaction.
+///
+/// Rows beside one another, and no row of records: a clock is one value, which is joined and compared whole. A row has a place for every node or key, since no call
+/// takes memory.
 #[derive(Clone, Copy)]
 pub struct Transaction {
     pub kind: Kind,

@@ -26,6 +26,8 @@ impl<S: VersionStore> Catalogue<S> {
         Ok((before + 1) as TransactionNumber)
     }
 
+    // `cancel` and `finish` differ in two constants; one function under both would need a contract longer than their bodies.
+
     /// Aborts an open or offered update.
     pub fn cancel(&mut self, t: TransactionNumber) -> Result<(), Refusal>
         ensures step { (done result, world S.meaning self.new) ≡ cancel_call (world S.meaning self.old) t }

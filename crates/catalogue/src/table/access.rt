@@ -175,6 +175,8 @@ impl Table {
         holds(&self.placement, p, k)
     }
 
+    // Three names for one replacement: they differ in what they ask and promise of the numbers.
+
     /// Replaces the record of a transaction by one that raised no number.
     pub(crate) fn update(&mut self, t: TransactionNumber, x: Transaction)
         requires begun { is_begun (world_of self.old fresh) t ≡ true }
