@@ -12,6 +12,7 @@ use store::{FIRST_VERSION, Version, chain_index};
 
 impl Roll {
     // How many places are free.
+    #[tactic(auto, using(crate::specs::Moves::room_is))]
     pub(crate) fn places_left(&self) -> usize
         ensures { result ≡ room 512 (roll_meaning self.now) }
     {
@@ -28,6 +29,7 @@ impl Roll {
     }
 
     // Has so many places set aside for a node and key, which the free places must allow.
+    #[tactic(auto, using(crate::specs::Moves::written, crate::specs::Moves::written_room))]
     pub(crate) fn set_aside_at(&mut self, node: u8, key: u8, places: usize)
         requires within { in_range node key ≡ true }
         requires allowed { places ≤ (roll_meaning self.old node key).aside + room 512 (roll_meaning self.old) }
@@ -42,6 +44,7 @@ impl Roll {
     }
 
     // Adds the newest version of a node and key, which takes a free place.
+    #[tactic(auto, using(crate::specs::Moves::pushed_is, crate::specs::Moves::pushed_room))]
     pub(crate) fn push(&mut self, node: u8, key: u8, version: Version)
         requires within { in_range node key ≡ true }
         requires free { 0 < room 512 (roll_meaning self.old) }

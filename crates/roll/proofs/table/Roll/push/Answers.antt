@@ -35,14 +35,3 @@ invariant_of-self c =
       counted = omega arith;
       summed = aside;
     }
-
-pub returns : goal.returns
-returns c =
-    let r = c.args.self.now in
-    let within = c.requires.within in
-    let node_is : c.args.node < 8 = grind (arith, nat_tests) in
-    let key_is : c.args.key < 64 = grind (arith, nat_tests) in
-    let e : Entry = record { node = c.args.node; key = c.args.key; version = c.args.version } in
-    let es = c.push_reserved.new.self.items in
-    let pushed = c.push_reserved.ensures.items in
-    record { after = moves.pushed_is r e node_is key_is es pushed; room = moves.pushed_room r e node_is key_is es pushed c.requires.free }

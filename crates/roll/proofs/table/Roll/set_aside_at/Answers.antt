@@ -33,14 +33,3 @@ invariant_of-self c =
       counted = stored;
       summed = omega arith;
     }
-
-pub returns-in-Some : goal.returns-in-Some
-returns-in-Some c =
-    let r = c.args.self.now in
-    let a = c.args.places in
-    let x = c.index-had.result.now in
-    let at = sym c.chain_index.ensures ∙ c.in-Some.is in
-    record {
-      after = moves.written r c.args.node c.args.key c.in-Some.i x at c.index-had.ensures a;
-      room = moves.written_room r c.args.node c.args.key c.in-Some.i x at c.index-had.ensures a c.requires.allowed;
-    }
