@@ -65,6 +65,6 @@ impl<S: VersionStore> Catalogue<S> {
                 self.table.update_within(t, noted);
             }
         }
-        Ok((seen.version.value, seen.version.writer))
+        Ok(seen.version.into())
     }
 }
