@@ -26,8 +26,22 @@ pub fn with_read(x: Transaction, p: NodeNumber, clock: Clock) -> Transaction
     }
 }
 
-/// The transaction with the writer of a version that it read noted, once a key and of at most eight keys.
+/// The transaction with the writer of a version noted, unless the key is noted already.
+// It is made here and not in the `Ok` of `with_note`, where the program would copy the whole record once more at each read.
 #[tactic(auto, using(crate::proofs::Bounded::keeps_same))]
+fn has_noted(x: Transaction, k: KeyNumber, writer: TransactionNumber) -> Transaction
+    ensures value { result ≡ has_noted k writer x }
+    ensures kept { Keeps x result }
+{
+    let noted = if is_there(&x.noted, k) {
+        x.noted
+    } else {
+        with_entry(x.noted, k, Some(writer))
+    };
+    Transaction { noted, ..x }
+}
+
+/// The transaction with the writer of a version that it read noted, once a key and of at most eight keys.
 pub fn with_note(
     x: Transaction,
     k: KeyNumber,
@@ -39,10 +53,5 @@ pub fn with_note(
     if !has_room(&x.noted, k) {
         return Err(Refusal::TooManyKeysRead);
     }
-    let noted = if is_there(&x.noted, k) {
-        x.noted
-    } else {
-        with_entry(x.noted, k, Some(writer))
-    };
-    Ok(Transaction { noted, ..x })
+    Ok(has_noted(x, k, writer))
 }

@@ -11,8 +11,20 @@ use calls::refusal::Refusal;
 use calls::sizes::{KeyNumber, StoredValue};
 use rules::records::{State, Transaction};
 
-/// The transaction with a value for a key, of at most eight keys.
+/// The transaction with a value for a key, in place of an earlier one.
+// It is made here and not in the `Ok` of `with_write`, where the program would copy the whole record once more at each write.
 #[tactic(auto, using(crate::proofs::Bounded::keeps_same))]
+fn has_written(x: Transaction, k: KeyNumber, value: StoredValue) -> Transaction
+    ensures value { result ≡ has_written k value x }
+    ensures kept { Keeps x result }
+{
+    Transaction {
+        written: with_entry(x.written, k, Some(value)),
+        ..x
+    }
+}
+
+/// The transaction with a value for a key, of at most eight keys.
 pub fn with_write(x: Transaction, k: KeyNumber, value: StoredValue) -> Result<Transaction, Refusal>
     ensures value { result ≡ (if wrote x k || nat_lt (how_many x.written) 8 then Ok (has_written k value x) else Err TooManyKeysWritten) }
     ensures kept { IfOk result (λ y. Keeps x y) }
@@ -20,10 +32,7 @@ pub fn with_write(x: Transaction, k: KeyNumber, value: StoredValue) -> Result<Tr
     if !has_room(&x.written, k) {
         return Err(Refusal::TooManyKeysWritten);
     }
-    Ok(Transaction {
-        written: with_entry(x.written, k, Some(value)),
-        ..x
-    })
+    Ok(has_written(x, k, value))
 }
 
 /// The transaction offered to the nodes of a byte.
