@@ -19,8 +19,9 @@ use story::Story;
 
 /// Tells the story over a new store.
 fn tell<S: VersionStore>(rt: &HostRuntime) -> anyhow::Result<()> {
-    let catalogue = Catalogue::<S>::make(rt.alloc(), 2, 2, &PLACEMENT)
-        .map_err(|_| anyhow!("no catalogue was made"))?;
+    let catalogue = Catalogue::<S>::make(rt.alloc(), 2, 2, &PLACEMENT).map_err(|_| anyhow!(
+        "no catalogue was made"
+    ))?;
     let mut story = Story {
         report: Report::new(rt),
         catalogue,

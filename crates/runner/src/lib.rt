@@ -73,7 +73,10 @@ fn on_record<S: VersionStore>(
 }
 
 /// Runs some records on a new unit.
-fn run_records<S: VersionStore>(heap: Global, records: &[Record<'_>]) -> Result<Report<S>, AllocError>
+fn run_records<S: VersionStore>(
+    heap: Global,
+    records: &[Record<'_>],
+) -> Result<Report<S>, AllocError>
     ensures { IfOk result (λ o. (free : FreeRule) → CountsBy (λ c. S.free c.store) free o.catalogue → RecordsRun free (map entry_of records.now) o.lines.items (option_map (world S.meaning) o.catalogue)) }
 {
     let mut lines = Vec::new(heap);
