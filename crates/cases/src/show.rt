@@ -32,7 +32,7 @@ pub(crate) fn show_tape(
     let over_shelf = listed::<Shelf>(rt.alloc(), tape, skipped)?;
     let over_roll = listed::<Roll>(rt.alloc(), tape, skipped)?;
     print!(rt; "{over_shelf}")?;
-    if over_roll.as_bytes() != over_shelf.as_bytes() {
+    if over_roll != over_shelf {
         print!(rt; "over the roll\n{over_roll}")?;
     }
     Ok(())

@@ -1,6 +1,6 @@
 //! The answers that the results of the calls stand for.
 //!
-//! A function for each call, and no trait of the result's type: begin, offer and apply answer by the same type of number.
+//! A function for each call, which names the call's definition, and no trait of the result's type: begin, offer and apply answer by the same type of number.
 
 ghost use Rattle.std.specs.Prelude.{◌≡◌, Err};
 ghost use Rattle.catalogue.specs.Replies.{begun, done, found, polled, voted, decided, applied, decision_answer, vote_answer};

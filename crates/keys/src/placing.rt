@@ -18,6 +18,7 @@ pub fn holds(placement: &[u8], p: NodeNumber, k: KeyNumber) -> bool
     ensures value { result ≡ bit (slice_index placement.now k) p }
     ensures node { result ≡ true → p < 8 }
 {
+    // The same bit as `records::votes::names` looks at; a crate under both has no code to put it in.
     let byte = holders(placement, k);
     p < 8 && (byte >> p) % 2 == 1
 }

@@ -8,7 +8,7 @@ use calls::sizes::{KeyNumber, NodeNumber};
 use rules::records::Transaction;
 use std::marker::Model;
 
-/// At most 64 keys, in a row that has room for them all: no call takes memory.
+/// At most 64 keys, in a row that has room for them all: no call takes memory. (A push to the kit's `ArrayVec` could fail, as far as its type says.)
 #[derive(Drop)]
 pub struct WrittenKeys {
     row: [KeyNumber; 64],

@@ -35,7 +35,7 @@ pub fn applied(x: Transaction, p: NodeNumber) -> Transaction
     }
 }
 
-/// The transaction, whose decision a node learns and which it releases.
+/// The transaction, whose decision a node learns and which it releases. It is `applied` at another row, and a row can't be a parameter.
 #[tactic(auto, unfolding(crate::specs::Bounds::raised_by))]
 pub fn released(x: Transaction, p: NodeNumber) -> Transaction
     ensures value { result ≡ is_learned p (is_released p x) }

@@ -66,7 +66,7 @@ pub struct Node {
 /// A transaction.
 ///
 /// Rows beside one another, and no row of records: a clock is one value, which is joined and compared whole. A row has a place for every node or key, since no call
-/// takes memory.
+/// takes memory; and the rules read each row by itself. Stamp and commit clock are zero until the commit, and are read of any transaction, so they stand in no case of its state.
 #[derive(Clone, Copy)]
 pub struct Transaction {
     pub kind: Kind,

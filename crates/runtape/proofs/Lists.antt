@@ -30,7 +30,7 @@ of_take {R} remaining limit inner input before after items to of none same read 
     subst (λ (l : List ℕ). IfSome (option_map (take 32769) (remaining input)) (λ xs. l ≡ xs)) (sym same) alone
 
 module _ {C : Type 0} (world : C → World) (rule : C → FreeRule) (lines : List Line) (unit : Option C) (text : List ℕ) (listed : text ≡ text_of lines) where
-  of_entries : (tape items : List ℕ) → read_tape items ≡ read_tape tape → ((free : FreeRule) → CountsBy rule free unit → TapeRun free items lines (option_map world unit)) → ((free : FreeRule) → CountsBy rule free unit → TapeTold free items lines) → Listed world rule tape text
+  pub of_entries : (tape items : List ℕ) → read_tape items ≡ read_tape tape → ((free : FreeRule) → CountsBy rule free unit → TapeRun free items lines (option_map world unit)) → ((free : FreeRule) → CountsBy rule free unit → TapeTold free items lines) → Listed world rule tape text
   of_entries tape items same ran told =
       record {
         lines = lines;

@@ -2,11 +2,11 @@
 #![tactic(auto)]
 
 ghost use Rattle.std.specs.Prelude.{◌≡◌, ℕ, ◌+◌, ◌^◌, ◌<◌, ◌≤◌, if◌then◌else◌, Some, None, nat_lt};
-ghost use Rattle.clock.specs.Clocks.{slot};
 ghost use Rattle.clock.specs.Numbers.{if_fits};
 ghost use Rattle.rules.specs.World.{World, some_below, is_write_node};
 ghost use Rattle.rules.specs.Changes.{is_committed};
 ghost use Rattle.rules.specs.Deciding.{base_clock, stamp_of, stamped};
+ghost use Rattle.records.specs.Bounds.{ClockWithin};
 
 use calls::sizes::{NodeNumber, Stamp, TransactionNumber};
 use clock::{Clock, join, stamp};
@@ -31,7 +31,7 @@ fn base_clock(x: &Transaction) -> Clock
 /// The stamp of an update, if 32 bits hold it: 0 where it writes at no node. It is at most 256 above all numbers that it is made from.
 pub fn stamp_of(placement: &[u8], t: TransactionNumber, x: &Transaction) -> Option<Stamp>
     ensures value { (w : World) → w.placement ≡ placement.now → result ≡ if_fits (stamp_of w t x.now) }
-    ensures within { (w : World) → w.placement ≡ placement.now → (b : ℕ) → b + 256 < 2 ^ 32 → ((q : ℕ) → slot x.now.clock q ≤ b) → ((q : ℕ) → slot x.now.numbers q ≤ b) → ((q : ℕ) → slot x.now.votes q ≤ b) → (result ≡ Some (stamp_of w t x.now)) × (stamp_of w t x.now ≤ b + 256) }
+    ensures within { (w : World) → w.placement ≡ placement.now → (b : ℕ) → b + 256 < 2 ^ 32 → ClockWithin b x.now.clock → ClockWithin b x.now.numbers → ClockWithin b x.now.votes → (result ≡ Some (stamp_of w t x.now)) × (stamp_of w t x.now ≤ b + 256) }
 {
     if !has_write_node(placement, x) {
         return Some(0);
@@ -59,7 +59,7 @@ fn commit_slot(
 /// The commit clock of an update with this stamp. No slot is higher than the stamp and all slots that it is made from.
 pub fn commit_clock_of(placement: &[u8], x: &Transaction, number: Stamp) -> Clock
     ensures value { (w : World) → w.placement ≡ placement.now → result ≡ stamped w x.now number }
-    ensures within { (b : ℕ) → number ≤ b → ((q : ℕ) → slot x.now.clock q ≤ b) → ((q : ℕ) → slot x.now.votes q ≤ b) → (q : ℕ) → slot result q ≤ b }
+    ensures within { (b : ℕ) → number ≤ b → ClockWithin b x.now.clock → ClockWithin b x.now.votes → ClockWithin b result }
 {
     let base = base_clock(x);
     from_fn(|q| commit_slot(placement, x, q as NodeNumber, number, base[q]))
@@ -80,7 +80,7 @@ fn with_commit(x: Transaction, number: Stamp, commit: Clock) -> Transaction
 /// An update, committed, if 32 bits hold its stamp. Its stamp and its commit clock are at most 256 above all numbers that they are made from.
 pub fn committed(placement: &[u8], t: TransactionNumber, x: Transaction) -> Option<Transaction>
     ensures value { (w : World) → w.placement ≡ placement.now → result ≡ (if nat_lt (stamp_of w t x) (2 ^ 32) then Some (is_committed (stamp_of w t x) (stamped w x (stamp_of w t x)) x) else None) }
-    ensures within { (w : World) → w.placement ≡ placement.now → (b : ℕ) → b + 256 < 2 ^ 32 → ((q : ℕ) → slot x.clock q ≤ b) → ((q : ℕ) → slot x.numbers q ≤ b) → ((q : ℕ) → slot x.votes q ≤ b) → (result ≡ Some (is_committed (stamp_of w t x) (stamped w x (stamp_of w t x)) x)) × (stamp_of w t x ≤ b + 256) × ((q : ℕ) → slot (stamped w x (stamp_of w t x)) q ≤ b + 256) }
+    ensures within { (w : World) → w.placement ≡ placement.now → (b : ℕ) → b + 256 < 2 ^ 32 → ClockWithin b x.clock → ClockWithin b x.numbers → ClockWithin b x.votes → (result ≡ Some (is_committed (stamp_of w t x) (stamped w x (stamp_of w t x)) x)) × (stamp_of w t x ≤ b + 256) × ClockWithin (b + 256) (stamped w x (stamp_of w t x)) }
 {
     let number = stamp_of(placement, t, &x)?;
     let commit = commit_clock_of(placement, &x, number);

@@ -44,7 +44,7 @@ pub fn chain_index(node: u8, key: u8) -> Option<usize>
     ensures { result ≡ index_of node key }
 {
     if node < 8 && key < 64 {
-        Some(node as usize * 64 + key as usize)
+        Some(usize::from(node) * 64 + usize::from(key))
     } else {
         None
     }

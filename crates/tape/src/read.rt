@@ -27,7 +27,6 @@ pub fn read(heap: Global, tape: &[u8]) -> Result<Vec<Record<'_>>, AllocError>
     }
     // How long a record is says where the next begins, so this goes by places and not by items.
     let mut at = 0;
-    // Each record says where the next one begins.
     while at < tape.len() {
         let (content, next) = record_at(tape, at);
         records.push(Record { place: at, content })?;

@@ -2,11 +2,12 @@
 #![tactic(auto)]
 
 ghost use Rattle.std.specs.Prelude.{◌≡◌, ℕ, ◌<◌, ◌≤◌, [], if◌then◌else◌, fold, ◌==◌, slice_index_or};
-ghost use Rattle.clock.specs.Clocks.{slot, passes};
+ghost use Rattle.clock.specs.Clocks.{passes};
 ghost use Rattle.store.specs.Model.{in_range};
 ghost use Rattle.rules.specs.declared.records.Kind.TheVariants.{Search};
 ghost use Rattle.rules.specs.World.{World, new_transaction};
 ghost use Rattle.rules.specs.Reading.{commit_clock, with_passing, clock_after, version_passes, newest_passing, newest_passes, visible};
+ghost use Rattle.records.specs.Bounds.{ClockWithin};
 
 use calls::sizes::{KeyNumber, NodeNumber, StoredValue, TransactionNumber};
 use clock::{Clock, NodeMarks, join, passes};
@@ -63,7 +64,7 @@ fn with_all_passing(x: &Transaction, p: NodeNumber, transactions: &[Transaction]
 #[tactic(auto, using(crate::proofs::Clocks::clock_again, crate::proofs::Clocks::clock_first))]
 pub fn clock_after(x: &Transaction, p: NodeNumber, transactions: &[Transaction]) -> Clock
     ensures value { (w : World) → w.transactions ≡ transactions.now → result ≡ clock_after w x.now p }
-    ensures within { (b : ℕ) → ((q : ℕ) → slot x.now.clock q ≤ b) → ((i q : ℕ) → slot (slice_index_or transactions.now i (new_transaction Search)).commit q ≤ b) → (q : ℕ) → slot result q ≤ b }
+    ensures within { (b : ℕ) → ClockWithin b x.now.clock → ((i : ℕ) → ClockWithin b (slice_index_or transactions.now i (new_transaction Search)).commit) → ClockWithin b result }
 {
     if is_marked(x.read, p) {
         x.clock

@@ -8,7 +8,7 @@ ghost use Rattle.roll.specs.Moves.{chains_short};
 use super::access::nth_version;
 use super::{PLACES, Roll};
 use std::alloc::{AllocError, Global};
-use store::{StoreRefusal, TransactionNumber, Version, VersionStore};
+use store::{StoreRefusal, TransactionNumber, Version, VersionStore, chain_index};
 
 impl VersionStore for Roll {
     ghost meaning = { roll_meaning };
@@ -30,9 +30,7 @@ impl VersionStore for Roll {
 
     #[tactic(auto, using(crate::proofs::Walk::nth_is), unfolding(crate::specs::Entries::entered))]
     fn nth(&self, node: u8, key: u8, steps: usize) -> Option<(u64, TransactionNumber)> {
-        if node >= 8 || key >= 64 {
-            return None;
-        }
+        chain_index(node, key)?;
         nth_version(&self.entries, node, key, steps).map(|version| version.into())
     }
 
