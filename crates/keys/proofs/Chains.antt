@@ -31,7 +31,7 @@ last_first true false = refl
 last_first false true = refl
 last_first false false = refl
 
-any_is : (n : ℕ) (test : ℕ → Bool) → list_any test (range_with_len 0 n) ≡ some_below n test
+pub any_is : (n : ℕ) (test : ℕ → Bool) → list_any test (range_with_len 0 n) ≡ some_below n test
 any_is zero test = refl
 any_is (suc n) test =
     ap (list_any test) (counting_more 0 n ∙ ap (λ (x : ℕ). range_with_len 0 n ++ x ∷ []) (omega arith))

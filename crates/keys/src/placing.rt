@@ -5,6 +5,14 @@ ghost use Rattle.rules.specs.World.{bit};
 ghost use Rattle.rules.specs.Steps.{all_placed, can_make};
 
 use calls::sizes::{KeyNumber, NodeNumber};
+use std::ops::Range;
+
+/// All keys, from the lowest to the highest.
+pub(crate) fn all_keys() -> Range<KeyNumber>
+    ensures { result ≡ record { start = 0; end = 64 } }
+{
+    0..64
+}
 
 /// The byte of a key's holders; no node holds what is no key.
 pub(crate) fn holders(placement: &[u8], k: KeyNumber) -> u8

@@ -5,7 +5,7 @@ ghost use Rattle.rules.specs.World.{World, noted, wrote};
 ghost use Rattle.rules.specs.Deciding.{polled_byte};
 
 use crate::named::{has_noted, has_written};
-use crate::placing::holders;
+use crate::placing::{all_keys, holders};
 use calls::sizes::KeyNumber;
 use rules::records::Transaction;
 
@@ -20,7 +20,7 @@ fn names(x: &Transaction, k: KeyNumber) -> bool
 pub fn polled(placement: &[u8], x: &Transaction) -> u8
     ensures { (w : World) → w.placement ≡ placement.now → result ≡ polled_byte w x.now }
 {
-    (0..64)
+    all_keys()
         .filter(|k| names(x, *k))
         .fold(0, |byte, k| byte | holders(placement, k))
 }

@@ -4,7 +4,7 @@ ghost use Rattle.std.specs.Prelude.{◌≡◌, ◌&&◌, slice_index};
 ghost use Rattle.rules.specs.World.{World, bit, wrote, is_write_node};
 
 use crate::named::has_written;
-use crate::placing::holds;
+use crate::placing::{all_keys, holds};
 use calls::sizes::{KeyNumber, NodeNumber};
 use rules::records::Transaction;
 
@@ -19,5 +19,5 @@ pub fn writes_key(placement: &[u8], x: &Transaction, p: NodeNumber, k: KeyNumber
 pub fn writes_at(placement: &[u8], x: &Transaction, p: NodeNumber) -> bool
     ensures { (w : World) → w.placement ≡ placement.now → result ≡ is_write_node w x.now p }
 {
-    (0..64).any(|k| writes_key(placement, x, p, k))
+    all_keys().any(|k| writes_key(placement, x, p, k))
 }

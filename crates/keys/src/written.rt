@@ -3,6 +3,7 @@
 ghost use Rattle.std.specs.Prelude.{◌≡◌, ℕ, ◌<◌, ◌≤◌, List, length, slice_index};
 ghost use Rattle.rules.specs.World.{World, written_at};
 
+use crate::placing::all_keys;
 use crate::writing::writes_key;
 use calls::sizes::{KeyNumber, NodeNumber};
 use rules::records::Transaction;
@@ -43,7 +44,7 @@ pub fn written_keys(placement: &[u8], x: &Transaction, p: NodeNumber) -> Written
 {
     let mut row = [0; 64];
     let mut count = 0;
-    for k in (0..64).filter(|k| writes_key(placement, x, p, *k)) {
+    for k in all_keys().filter(|k| writes_key(placement, x, p, *k)) {
         row[count] = k;
         count += 1;
     }

@@ -8,6 +8,7 @@ ghost use Rattle.rules.specs.Deciding.{nodes_of, all_voted};
 use crate::marks::is_marked;
 use calls::sizes::NodeNumber;
 use rules::records::Transaction;
+use std::ops::Range;
 
 /// How many nodes a byte names.
 #[tactic(auto, using(crate::proofs::Ones::ones_nodes))]
@@ -38,9 +39,16 @@ fn has_voted(x: &Transaction, p: NodeNumber) -> bool
     !is_polled(x, p) || is_marked(x.voted, p)
 }
 
+/// All nodes, from the first to the last.
+fn all_nodes() -> Range<NodeNumber>
+    ensures { result ≡ record { start = 0; end = 8 } }
+{
+    0..8
+}
+
 /// Whether all nodes that an update polls have voted.
 pub fn all_voted(x: &Transaction) -> bool
     ensures { result ≡ all_voted x.now }
 {
-    (0..8).all(|p| has_voted(x, p))
+    all_nodes().all(|p| has_voted(x, p))
 }

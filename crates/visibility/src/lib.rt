@@ -1,7 +1,7 @@
 //! What a transaction may see at a node: its clock after a read there, and the version of a key that it gets.
 #![tactic(auto)]
 
-ghost use Rattle.std.specs.Prelude.{◌≡◌, ℕ, ◌<◌, ◌≤◌, [], if◌then◌else◌, fold, ◌==◌, slice_index_or};
+ghost use Rattle.std.specs.Prelude.{◌≡◌, ℕ, ◌<◌, ◌≤◌, [], if◌then◌else◌, true, fold, ◌==◌, slice_index_or, slice_set};
 ghost use Rattle.clock.specs.Clocks.{passes};
 ghost use Rattle.store.specs.Model.{in_range};
 ghost use Rattle.rules.specs.declared.records.Kind.TheVariants.{Search};
@@ -107,6 +107,13 @@ fn newest_passing<S: VersionStore>(
     seen_after(steps, 0, 0)
 }
 
+/// The nodes that a transaction has read at, after a read at this one.
+fn read_after(x: &Transaction, p: NodeNumber) -> NodeMarks
+    ensures { result ≡ slice_set x.now.read p true }
+{
+    with_entry(x.read, p, true)
+}
+
 /// The version of a key that a transaction sees at a node, with the clock that it has after a read there.
 pub fn visible<S: VersionStore>(
     transactions: &[Transaction],
@@ -119,12 +126,5 @@ pub fn visible<S: VersionStore>(
     ensures version { (w : World) → w.transactions ≡ transactions.now → w.store ≡ S.meaning store.now → clock ≡ clock_after w x.now p → p < 8 → k < 64 → result.version ≡ visible w x.now k p }
     ensures newest { (w : World) → w.transactions ≡ transactions.now → w.store ≡ S.meaning store.now → clock ≡ clock_after w x.now p → p < 8 → k < 64 → result.newest ≡ newest_passes (version_passes w x.now p) (w.store p k).versions }
 {
-    newest_passing(
-        transactions,
-        store,
-        with_entry(x.read, p, true),
-        clock,
-        k,
-        p,
-    )
+    newest_passing(transactions, store, read_after(x, p), clock, k, p)
 }

@@ -1,3 +1,4 @@
+pub mod Back
 pub mod Blocking
 pub mod Least
 pub mod Lowest

@@ -31,6 +31,7 @@ pub fn set_places<S: VersionStore>(
 }
 
 /// Gives back the places that a node set aside for an update that is engaged there.
+#[tactic(auto, using(crate::proofs::Back::back_if))]
 pub fn give_back<S: VersionStore>(placement: &[u8], store: &mut S, p: NodeNumber, x: &Transaction)
     ensures after { (w : World) → w.placement ≡ placement.now → S.meaning store.new ≡ (if marked x.now.engaged p then all_back (S.meaning store.old) p (written_at w x.now p) else S.meaning store.old) }
     ensures rule { S.free store.new ≡ S.free store.old }

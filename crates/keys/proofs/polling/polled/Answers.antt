@@ -14,6 +14,6 @@ returns c w placed =
     let named : ℕ → Bool = λ k. noted c.args.x.now k || wrote c.args.x.now k in
     let with_holders : ℕ → ℕ → ℕ = λ byte k. bit_or byte (slice_index w.placement k) in
     fold_from_yields_List _ with_holders _ _ c.fold.ensures.ran
-    (YieldsList-from_filter _ named (YieldsList-from_range 0 64 64 c.filter.ensures.source refl) c.filter.ensures.closure (λ x b q k. search (rules, tests)))
+    (YieldsList-from_filter _ named (YieldsList-from_range 0 64 64 (c.filter.ensures.source ∙ c.all_keys.ensures) refl) c.filter.ensures.closure (λ x b q k. search (rules, tests)))
     (λ byte x b q k. search (rules, tests, placed))
     ∙ fold-filter with_holders named 0 (range_with_len 0 64)

@@ -8,7 +8,7 @@ pub bounds-row-count : goal.bounds-row-count
 bounds-row-count c =
     let kept : ℕ → Bool = λ k. wrote c.args.x.now k && bit (slice_index c.args.placement.now k) c.args.p in
     let room : length c.loop-k.yielded < 64 =
-    room_for_next kept _ _ c.into_iter-k-iterator.ensures.into_iter_gives c.filter-k-items.ensures.source c.filter-k-items.ensures.closure c.loop-k.yielded_by c.next.ensures.steps c.in-Some.is (λ x b q k. search (rules, tests)) in
+    room_for_next kept _ _ c.into_iter-k-iterator.ensures.into_iter_gives (c.filter-k-items.ensures.source ∙ c.all_keys.ensures) c.filter-k-items.ensures.closure c.loop-k.yielded_by c.next.ensures.steps c.in-Some.is (λ x b q k. search (rules, tests)) in
     omega (arith, room, c.loop-k.invariant.1)
 
 pub loop-k-preserved : goal.loop-k-preserved
@@ -23,4 +23,4 @@ pub returns-clause-keys : goal.returns-clause-keys
 unfolding written_at
 returns-clause-keys c w placed =
     c.loop-k.invariant.2
-    ∙ all_given (λ k. wrote c.args.x.now k && holds w c.args.p k) _ _ c.into_iter-k-iterator.ensures.into_iter_gives c.filter-k-items.ensures.source c.filter-k-items.ensures.closure c.loop-k.yielded_by c.next.ensures.steps c.in-None.is (λ x b q k. search (rules, tests, placed))
+    ∙ all_given (λ k. wrote c.args.x.now k && holds w c.args.p k) _ _ c.into_iter-k-iterator.ensures.into_iter_gives (c.filter-k-items.ensures.source ∙ c.all_keys.ensures) c.filter-k-items.ensures.closure c.loop-k.yielded_by c.next.ensures.steps c.in-None.is (λ x b q k. search (rules, tests, placed))

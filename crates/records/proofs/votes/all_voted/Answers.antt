@@ -7,4 +7,4 @@ use Rattle.records.proofs.votes.all_voted.Goals as goal
 pub returns : goal.returns
 returns c =
     let x = c.args.x.now in
-    all_from_yields_List (has_voted x) _ _ c.all.result c.all.ensures.ran (YieldsList-from_range 0 8 8 refl refl) (λ p voted q k. search (rules, tests)) ∙ all_voted_listed x
+    all_from_yields_List (has_voted x) _ _ c.all.result c.all.ensures.ran (YieldsList-from_range 0 8 8 c.all_nodes.ensures refl) (λ p voted q k. search (rules, tests)) ∙ all_voted_listed x
