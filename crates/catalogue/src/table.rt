@@ -1,4 +1,6 @@
-//! The tables of a catalogue.
+//! The tables of a catalogue: by node, by transaction and by key, none of which runs beside another.
+//!
+//! A transaction's number goes with a copy of its record, and a node's with a copy of its own; whose they are is said by one clause each, `Recorded` and `NodeRecorded`.
 
 ghost use Rattle.std.specs.Prelude.{◌≤◌, vec_len, vec_capacity};
 ghost use Rattle.records.specs.Bounds.{most, NodesWithin, AllCollectedWithin, AllDecidedWithin};

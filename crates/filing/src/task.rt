@@ -25,6 +25,7 @@ pub fn file_at<S: VersionStore>(
     ensures rule { S.free store.new ≡ S.free store.old }
 {
     store.set_aside(first, key).map_err(|_| first)?;
+    // No `?` here: the place at the first node is given back before the answer.
     if store.set_aside(second, key).is_err() {
         let _ = store.give_back(first, key);
         return Err(second);

@@ -1,4 +1,4 @@
-//! The document is filed, moved, and nearly moved back.
+//! The document is filed, moved, and nearly moved back. A begin that is refused ends its scene, without an error: the answer was printed.
 
 use crate::folders::{FOLDER_A, FOLDER_B};
 use crate::story::Story;

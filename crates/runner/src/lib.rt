@@ -44,6 +44,7 @@ fn first_call<S: VersionStore>(
         let refusal = Refusal::MakeOutOfOrder;
         return Ok((Answer::Refused { refusal }, None));
     };
+    // Of the three outcomes two are answers, and only the third is an error.
     match Catalogue::make(heap, nodes, keys, placement) {
         Ok(catalogue) => Ok((Answer::Done, Some(catalogue))),
         Err(MakeError::Refused { refusal }) => Ok((Answer::Refused { refusal }, None)),
@@ -60,6 +61,7 @@ fn on_record<S: VersionStore>(
     ensures step { IfOk result (λ a. (free : FreeRule) → CountsBy (λ c. S.free c.store) free unit.old → (a, option_map (world S.meaning) unit.new) ≡ on_content free (option_map (world S.meaning) unit.old) (requested content.now)) }
     ensures rule { IfOk result (λ a. (free : FreeRule) → CountsBy (λ c. S.free c.store) free unit.new → CountsBy (λ c. S.free c.store) free unit.old) }
 {
+    // A refused record is answered; it is no error of the run.
     let call = match content {
         Ok(call) => call,
         Err(refusal) => return Ok(Answer::Refused { refusal: *refusal }),

@@ -1,4 +1,6 @@
 //! The commit of an update: its stamp and its commit clock.
+//!
+//! Placement, transaction and node stay separate parameters, as in `keys`.
 #![tactic(auto)]
 
 ghost use Rattle.std.specs.Prelude.{◌≡◌, ℕ, ◌+◌, ◌^◌, ◌<◌, ◌≤◌, if◌then◌else◌, Some, None, nat_lt};

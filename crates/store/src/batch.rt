@@ -25,6 +25,7 @@ pub fn set_aside_all<S: VersionStore>(store: &mut S, node: u8, keys: &[u8]) -> R
     ensures rule { S.free store.new ≡ S.free store.old }
 {
     for (i, &key) in keys.iter().enumerate() {
+        // No `?` here: what was set aside is given back before the answer.
         if store.set_aside(node, key).is_err() {
             give_back_all(store, node, &keys[..i]);
             return Err(key);

@@ -1,4 +1,6 @@
 //! What a transaction may see at a node: its clock after a read there, and the version of a key that it gets.
+//!
+//! Placement, transaction and node stay separate parameters, as in `keys`.
 #![tactic(auto)]
 
 ghost use Rattle.std.specs.Prelude.{◌≡◌, ℕ, ◌<◌, ◌≤◌, [], if◌then◌else◌, true, fold, ◌==◌, slice_index_or, slice_set};

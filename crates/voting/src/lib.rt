@@ -1,4 +1,6 @@
 //! What a node looks at and does in its store before and after a vote.
+//!
+//! Placement, transaction and node stay separate parameters, as in `keys`.
 #![tactic(auto)]
 
 pub mod busy;

@@ -28,6 +28,7 @@ fn is_overtaken<S: VersionStore>(
     requires { k < 64 }
     ensures { (w : World) → w.placement ≡ placement.now → w.store ≡ S.meaning store.now → result ≡ overtaken_at w x.now p k }
 {
+    // No `is_some_and`: its closure would need a clause of its own on `k`.
     let Some(writer) = x.noted[usize::from(k)] else {
         return false;
     };

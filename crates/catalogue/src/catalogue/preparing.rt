@@ -34,6 +34,7 @@ impl<S: VersionStore> Catalogue<S> {
             self.table.vote_no(t, x, p);
             return Vote::NoOvertaken { key };
         }
+        // The store's refusal is a vote like the other.
         match set_places(placement, &mut self.store, &x, p) {
             Ok(()) => {
                 let number = self.table.vote_yes(t, x, p, n);

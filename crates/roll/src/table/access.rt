@@ -56,7 +56,7 @@ impl Roll {
 }
 
 // The version that is so many steps older than the newest of a node and key: their entries, the newest first, and then the
-// first version. Where it is inlined, each part of the chain keeps a counter, and an entry takes a fifth more instructions.
+// first version. Inlined into a caller, the chain takes a fifth more instructions for each entry.
 #[inline(never)]
 pub(crate) fn nth_version(entries: &[Entry], node: u8, key: u8, steps: usize) -> Option<Version>
     ensures { result ≡ slice_get (versions_of node key entries.now) steps }
