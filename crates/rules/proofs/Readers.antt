@@ -1,10 +1,9 @@
 -- Two facts of every history: who wrote is an update, and who reads its own values only has read at no node.
 use Rattle.std.proofs.Common.{◌≡◌, ℕ, Bool, true, false, cond, ◌&&◌, eqb, ◌⊎◌, List, ◌∷◌, sym, refl, ap, ◌∙◌, inl, inr}
-use Rattle.std.proofs.lemmas.Bool.{both_ways, eq-eqb, ne_eqb, and_parts, cases_eq}
+use Rattle.std.proofs.lemmas.Bool.{both_ways, eq-eqb, ne_eqb, and_parts, cases_eq, false≢true}
 use Rattle.history.specs.Table.{Version, Operation, get, put, puts}
 use Rattle.history.specs.Protocol.{Placement, Kind, Update, State, kind, wrote, status, Event, begin, read_own, read_search, read_update, write, offer, yes_write, yes_read, no_overtaken, no_place, commit, abort, cancel, learn_abort, learn_write, learn_read, apply, finish, Accepted, next, Reachable, start, then}
 use Rattle.history.specs.History.{script, WasRead}
-use Rattle.history.proofs.Basics.{clear}
 use Rattle.history.proofs.Invariants.{invariants}
 use Rattle.rules.specs.Promises.{reads_own_only}
 
@@ -95,5 +94,5 @@ module _ (holds : Placement) (modulus : ℕ) where
 
   -- who wrote is an update
   pub writers_update : {h : List Event} {s : State} → Reachable holds modulus h s → (t k : ℕ) → wrote s t k ≡ true → kind s t ≡ Update
-  writers_update start t k e = absurd (clear false e refl)
+  writers_update start t k e = absurd (false≢true e)
   writers_update (then e r ok) t k w = writers_after r e ok (writers_update r) t k w
