@@ -73,9 +73,6 @@ uncommitted x n = grind arith
 pub committed_after : (f : ℕ → Status) (x : ℕ) (y : Status) (u : ℕ) → (f x ≡ Committed → ⊥) → f u ≡ Committed → update_at f x y u ≡ Committed
 committed_after f x y u n e = grind arith
 
-pub begun_after : (f : ℕ → Status) (x : ℕ) (y : Status) (u : ℕ) → is_begun y ≡ true → is_begun (f u) ≡ true → is_begun (update_at f x y u) ≡ true
-begun_after f x y u n e = grind arith
-
 -- ── Conflicts ──
 
 pub conflict_left : (s : State) (u t k : ℕ) → conflict s u t k ≡ true → touched s u k ≡ true
@@ -124,12 +121,6 @@ selected_more v w f t (y ∷ l) (inl e) wt vt o b n =
     rw (← e, wt, vt, r)
 selected_more v w f t (y ∷ l) (inr m) wt vt o b n =
     rw (o y (λ z. n (inl (sym z, m))), b y (inl (refl, m))) (selected_more v w f t l m wt vt o (λ u h. b u (inr h)) (λ h. n (inr h)))
-
--- the versions of those that do not pass do not matter
-pub selected_alike : (v w : ℕ → Bool) (f g : ℕ → Version) (l : List ℕ) → ((u : ℕ) → v u ≡ w u) → ((u : ℕ) → v u ≡ true → f u ≡ g u) →
-    selected v f l ≡ selected w g l
-selected_alike v w f g [] a b = refl
-selected_alike v w f g (x ∷ l) a b = grind (arith, selected_alike v w f g l a b, a x, b x)
 
 -- ── The test of membership ──
 
