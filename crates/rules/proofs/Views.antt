@@ -1,7 +1,7 @@
 -- How the view of a world, and the counts of its engaged updates, follow the changes of one transaction or one node.
 use Rattle.std.proofs.Common.{◌≡◌, ℕ, zero, suc, ◌+◌, ◌-◌, ◌<◌, ◌≤◌, Bool, true, false, cond, ◌&&◌, eqb, ltb, leb, List, [], ◌∷◌, length, get_or, set, sym, refl, ap, ◌∙◌, subst, ⊎_elim, arith}
 use Rattle.std.proofs.lemmas.List.{length-set, get_or-set_same, get_or-set_other}
-use Rattle.std.proofs.lemmas.Bool.{cases_eq, ltb-true, eq-eqb, ne_eqb, eqb-true, both_ways, cond-true}
+use Rattle.std.proofs.lemmas.Bool.{cases_eq, ltb-true, eq-eqb, ne_eqb, eqb-true}
 use Rattle.std.proofs.lemmas.Bool.Decides.{nat_tests}
 use Rattle.clock.specs.Clocks.{slot, marked}
 use Rattle.history.specs.Protocol as protocol
@@ -14,8 +14,8 @@ use Rattle.rules.proofs.Invariant.{engaged_writers}
 
 -- ── A row with one place changed ──
 
-pub get_d_set : {X : Type 0} (xs : List X) (i j : ℕ) (x d : X) → i < length xs → get_or (set xs i x) j d ≡ cond (eqb i j) x (get_or xs j d)
-get_d_set xs i j x d l = ⊎_elim (λ (e : i ≡ j). rw (eq-eqb i j e, ← e) (get_or-set_same xs i x d l)) (λ (n : i ≡ j → ⊥). rw (ne_eqb i j n) (get_or-set_other xs i j x d (λ e. n (sym e)))) (cases_eq i j)
+pub get_or-set : {X : Type 0} (xs : List X) (i j : ℕ) (x d : X) → i < length xs → get_or (set xs i x) j d ≡ cond (eqb i j) x (get_or xs j d)
+get_or-set xs i j x d l = ⊎_elim (λ (e : i ≡ j). rw (eq-eqb i j e, ← e) (get_or-set_same xs i x d l)) (λ (n : i ≡ j → ⊥). rw (ne_eqb i j n) (get_or-set_other xs i j x d (λ e. n (sym e)))) (cases_eq i j)
 
 -- ── A transaction is changed ──
 
@@ -31,7 +31,7 @@ eqb_places t u a b = grind (arith, nat_tests)
 pub transaction_after : (w : World) (t : ℕ) (y : Transaction) (u : ℕ) → is_begun w t ≡ true → is_begun w u ≡ true →
     transaction (with_transaction w t y) u ≡ cond (eqb t u) y (transaction w u)
 transaction_after w t y u bt bu =
-    get_d_set w.transactions (t - 1) (u - 1) y _ (begun_place w t bt).1 ∙ ap (λ (b : Bool). cond b y (transaction w u)) (eqb_places t u (begun_place w t bt).0 (begun_place w u bu).0)
+    get_or-set w.transactions (t - 1) (u - 1) y _ (begun_place w t bt).1 ∙ ap (λ (b : Bool). cond b y (transaction w u)) (eqb_places t u (begun_place w t bt).0 (begun_place w u bu).0)
 
 -- The two ways: u is t, or it is another.
 pub transaction_cases : (w : World) (t : ℕ) (y : Transaction) (P : ℕ → Transaction → Type 0) → is_begun w t ≡ true → P t y →
@@ -47,10 +47,7 @@ transaction_cases w t y P bt here there u bu =
 shown : {X A : Type 0} (v : X → A) (d : A) (f : Bool → A → A) (same before after : Bool) (x x' y : X) → after ≡ before →
     (before ≡ true → x' ≡ cond same y x) → (same ≡ true → before ≡ true) → ((a : A) → f false a ≡ a) → (same ≡ true → v y ≡ f true (v x)) →
     cond after (v x') d ≡ f same (cond before (v x) d)
-shown v d f true true after x x' y eb ex begun rest here = rw (eb, ex refl) (here refl)
-shown v d f true false after x x' y eb ex begun rest here = absurd (both_ways true (sym (begun refl)) refl)
-shown v d f false true after x x' y eb ex begun rest here = rw (eb, ex refl, rest (v x)) refl
-shown v d f false false after x x' y eb ex begun rest here = rw (eb, rest d) refl
+shown v d f same before after x x' y e1 e2 e3 e4 e5 = grind (arith, nat_tests)
 
 module _ (w : World) (t : ℕ) (y : Transaction) (begun : is_begun w t ≡ true) where
   changed : {A : Type 0} (v : Transaction → A) (d : A) (f : Bool → A → A) → ((a : A) → f false a ≡ a) → v y ≡ f true (v (transaction w t)) → (u : ℕ) →
@@ -90,15 +87,15 @@ view_change w t y f begun rest here same =
 
 -- What is seen of a transaction that is begun.
 pub view_begun : (w : World) (t : ℕ) → is_begun w t ≡ true → (view w).transaction t ≡ transaction_of (transaction w t)
-view_begun w t begun = cond-true (is_begun w t) (transaction_of (transaction w t)) ((protocol.fresh).transaction t) begun
+view_begun w t begun = grind (arith, nat_tests)
 
 pub participation_begun : (w : World) (t p : ℕ) → is_begun w t ≡ true → (view w).participation t p ≡ participation_of (transaction w t) p
-participation_begun w t p begun = cond-true (is_begun w t) (participation_of (transaction w t) p) ((protocol.fresh).participation t p) begun
+participation_begun w t p begun = grind (arith, nat_tests)
 
 -- ── A node is changed ──
 
 pub node_after : (w : World) (p : ℕ) (n : Node) (q : ℕ) → is_node w p ≡ true → node (with_node w p n) q ≡ cond (eqb p q) n (node w q)
-node_after w p n q there = get_d_set w.nodes p q n new_node (ltb-true p (length w.nodes) there)
+node_after w p n q there = get_or-set w.nodes p q n new_node (ltb-true p (length w.nodes) there)
 
 pub view_node : (w : World) (p : ℕ) (n : Node) (f : Bool → protocol.Node → protocol.Node) → is_node w p ≡ true →
     ((x : protocol.Node) → f false x ≡ x) → node_of n ≡ f true (node_of (node w p)) →
@@ -110,10 +107,10 @@ view_node w p n f there rest here q =
 -- ── Rows of marks, numbers and keys, with one place changed ──
 
 pub marked_set : (row : List Bool) (p q : ℕ) (b : Bool) → p < length row → marked (set row p b) q ≡ cond (eqb p q) b (marked row q)
-marked_set row p q b l = get_d_set row p q b false l
+marked_set row p q b l = get_or-set row p q b false l
 
 pub slot_set : (row : List ℕ) (p q n : ℕ) → p < length row → slot (set row p n) q ≡ cond (eqb p q) n (slot row q)
-slot_set row p q n l = get_d_set row p q n 0 l
+slot_set row p q n l = get_or-set row p q n 0 l
 
 -- ── The updates engaged at a node ──
 
