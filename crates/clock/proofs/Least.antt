@@ -1,5 +1,5 @@
 -- The first number that leaves a transaction is the least.
-use Rattle.std.proofs.Common.{◌≡◌, ℕ, zero, suc, ◌+◌, ◌-◌, ◌*◌, ◌/◌, ◌%◌, ◌^◌, ◌<◌, ◌≤◌, max, ◌==◌, List, [], ◌∷◌, length, get_or, fold, Ok, Err, Result, sym, refl, ap, ◌∙◌, ⊎_elim, map-id, mod-lt, mod-eq_of_lt, add-mul, one-mul, div-add-mod', arith}
+use Rattle.std.proofs.Common.{◌≡◌, ℕ, zero, suc, ◌+◌, ◌-◌, ◌*◌, ◌/◌, ◌%◌, ◌^◌, ◌<◌, ◌≤◌, max, ◌==◌, List, [], ◌∷◌, length, slice_index_or, fold, Ok, Err, Result, sym, refl, ap, ◌∙◌, ⊎_elim, map-id, mod-lt, mod-eq_of_lt, add-mul, one-mul, div-add-mod', arith}
 use lib.Arith.{digits_mod}
 use Rattle.std.specs.List.{reduce}
 use Rattle.std.specs.Option.{unwrap_or}
@@ -59,15 +59,15 @@ next_least modulus c t small =
     record { has = (omega arith, h.1); least = λ m (p : (c < m) × (m % modulus ≡ t)). l.least m (omega arith, p.1) }
 
 -- The highest of some numbers is not below any of them, and not above what none of them is above.
-pub highest_above : (xs : List ℕ) (i : ℕ) → get_or xs i 0 ≤ highest xs
+pub highest_above : (xs : List ℕ) (i : ℕ) → slice_index_or xs i 0 ≤ highest xs
 highest_above [] i = omega arith
 highest_above (x ∷ xs) zero = omega arith
 highest_above (x ∷ xs) (suc i) = let rest = highest_above xs i in omega arith
 
-pub highest_below : (xs : List ℕ) (n : ℕ) → ((i : ℕ) → i < length xs → get_or xs i 0 ≤ n) → highest xs ≤ n
+pub highest_below : (xs : List ℕ) (n : ℕ) → ((i : ℕ) → i < length xs → slice_index_or xs i 0 ≤ n) → highest xs ≤ n
 highest_below xs n all = max_least highest (λ x. x) refl (λ _ _. refl) xs 0 n all
 
-pub highest_under : (xs : List ℕ) (n : ℕ) → 0 < n → ((i : ℕ) → i < length xs → get_or xs i 0 < n) → highest xs < n
+pub highest_under : (xs : List ℕ) (n : ℕ) → 0 < n → ((i : ℕ) → i < length xs → slice_index_or xs i 0 < n) → highest xs < n
 highest_under xs n pos all = let below = highest_below xs (n - 1) (λ i l. let here = all i l in omega arith) in omega arith
 
 pub stamp_least : (modulus : ℕ) (numbers base : List ℕ) (t : ℕ) → 0 < t → t < modulus → Stamp modulus numbers base t (stamp_number modulus numbers base t)
@@ -76,7 +76,7 @@ stamp_least modulus numbers base t pos small =
     let h = l.has in
     record {
       has = (h.1, λ i b. omega (arith, highest_above numbers i), λ q b. omega (arith, highest_above base q));
-      least = λ m (p : (m % modulus ≡ t) × ((i : ℕ) → i < length numbers → get_or numbers i 0 ≤ m) × ((q : ℕ) → q < length base → get_or base q 0 < m)).
+      least = λ m (p : (m % modulus ≡ t) × ((i : ℕ) → i < length numbers → slice_index_or numbers i 0 ≤ m) × ((q : ℕ) → q < length base → slice_index_or base q 0 < m)).
           let not_zero : (m ≡ 0 → ⊥) = λ z. let e = sym p.0 ∙ ap (λ x. x % modulus) z ∙ mod-eq_of_lt {n = 0} {m = modulus} (omega arith) in omega arith in
           let a = highest_below numbers m p.1 in
           let b = highest_under base m (omega arith) p.2 in

@@ -1,11 +1,11 @@
 -- Functions changed at one place, the statuses, and the order of a list.
-use Rattle.std.proofs.Common.{◌≡◌, ℕ, Bool, true, false, cond, ◌&&◌, eqb, ◌⊎◌, List, [], ◌∷◌, sym, refl, ap, inl, inr, arith, ◌||◌}
+use Rattle.std.proofs.Common.{◌≡◌, ℕ, Bool, true, false, cond, ◌&&◌, ◌⊎◌, List, [], ◌∷◌, sym, refl, ap, inl, inr, arith, ◌||◌, ◌==◌}
 use Rattle.std.proofs.lemmas.Bool.{or_right, or_left, or_cases, eqb-true, eq-eqb, false≢true}
 use Rattle.history.specs.Table.{Version, update_at, Member, listed, Later, selected}
 use Rattle.history.specs.Protocol.{Kind, Search, Update, Status, Unbegun, Offered, Committed, Aborted, State, touched, conflict}
 
 abbrev pub update_at₂ : {A : Type 0} → (ℕ → ℕ → A) → ℕ → ℕ → A → ℕ → ℕ → A
-update_at₂ f t p a u q = cond (eqb t u && eqb p q) a (f u q)
+update_at₂ f t p a u q = cond (t == u && p == q) a (f u q)
 
 pub same : {A : Type 0} (f : ℕ → A) (t : ℕ) (a : A) → update_at f t a t ≡ a
 same f t a = grind arith
@@ -126,9 +126,9 @@ selected_more v w f t (y ∷ l) (inr m) wt vt o b n =
 
 pub listed_member : (x : ℕ) (l : List ℕ) → listed x l ≡ true → Member x l
 listed_member x [] e = absurd (false≢true e)
-listed_member x (y ∷ l) e = elim (or_cases (eqb x y) (listed x l) e) [ inl a ↦ inl (eqb-true x y a) | inr a ↦ inr (listed_member x l a) ]
+listed_member x (y ∷ l) e = elim (or_cases (x == y) (listed x l) e) [ inl a ↦ inl (eqb-true x y a) | inr a ↦ inr (listed_member x l a) ]
 
 pub member_listed : (x : ℕ) (l : List ℕ) → Member x l → listed x l ≡ true
 member_listed x [] m = absurd m
-member_listed x (y ∷ l) (inl e) = or_left (eqb x y) (listed x l) (eq-eqb x y e)
-member_listed x (y ∷ l) (inr m) = or_right (eqb x y) (listed x l) (member_listed x l m)
+member_listed x (y ∷ l) (inl e) = or_left (x == y) (listed x l) (eq-eqb x y e)
+member_listed x (y ∷ l) (inr m) = or_right (x == y) (listed x l) (member_listed x l m)

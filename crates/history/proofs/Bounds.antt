@@ -1,6 +1,6 @@
 -- The bound: the numbers grow only at a yes of a write node and at a commit, by at most the modulus each time; and a transaction gets at
 -- most one vote from each node and one decision.
-use Rattle.std.proofs.Common.{◌≡◌, ℕ, zero, suc, ◌+◌, ◌-◌, ◌*◌, ◌%◌, ◌<◌, ◌≤◌, Bool, true, false, cond, eqb, List, [], ◌∷◌, length, sym, refl, ap, ◌∙◌, inl, inr, zero-le, mul_comm, mul-le-mul_left, arith}
+use Rattle.std.proofs.Common.{◌≡◌, ℕ, zero, suc, ◌+◌, ◌-◌, ◌*◌, ◌%◌, ◌<◌, ◌≤◌, Bool, true, false, cond, List, [], ◌∷◌, length, sym, refl, ap, ◌∙◌, inl, inr, zero-le, mul_comm, mul-le-mul_left, arith, ◌==◌}
 use native.Mathlib.Nat.{add-mod_right}
 use Rattle.std.proofs.lemmas.Bool.{cases_eq, cases_lt, both_ways, false≢true, cond_both}
 use Rattle.std.proofs.Math.Nat.{max-le}
@@ -81,7 +81,7 @@ grows (commit t n c) = true
 grows e = false
 
 raise : (f : ℕ → Clock) (b t : ℕ) (c : Clock) → ((x q : ℕ) → f x q ≤ b) → ((q : ℕ) → c q ≤ b) → (x q : ℕ) → update_at f t c x q ≤ b
-raise f b t c g h x q = cond_both (eqb t x) c (f x) (λ y. y q ≤ b) (λ _. h q) (λ _. g x q)
+raise f b t c g h x q = cond_both (t == x) c (f x) (λ y. y q ≤ b) (λ _. h q) (λ _. g x q)
 
 loosen : (a b : ℕ) (s : State) → a ≤ b → NumbersWithin a s → NumbersWithin b s
 loosen a b s h i = grind arith

@@ -1,5 +1,5 @@
 -- The chains: each lists the applied writers of its key, in the order of decision.
-use Rattle.std.proofs.Common.{◌≡◌, ℕ, true, false, ◌&&◌, eqb, List, ◌∷◌, sym, refl, ◌∙◌, inl, inr, arith}
+use Rattle.std.proofs.Common.{◌≡◌, ℕ, true, false, ◌&&◌, List, ◌∷◌, sym, refl, ◌∙◌, inl, inr, arith, ◌==◌}
 use Rattle.std.proofs.lemmas.Bool.{cases_Bool, or_right, both_ways, and_left, false_from_ne_true}
 use Rattle.history.specs.Table.{Version, version, update_at, Member, Later, selected, newest}
 use Rattle.history.specs.Protocol.{Placement, Clock, Open, Offered, Committed, State, status, noted, noted_writer, wrote, value, engaged, applied, chain, conflict, written_version, Event, read_update, write, yes_write, yes_read, commit, apply, Current, put_versions, next, Accepted}
@@ -40,7 +40,7 @@ module _ (holds : Placement) (modulus : ℕ) where
   apply_lists_applied : (h : List Event) (s : State) (t p : ℕ) → Locks holds modulus s → Decisions holds modulus h s → Chains h s →
       Accepted holds modulus s (apply t p) → (q j : ℕ) → holds q j ≡ true →
       put_versions holds s t p q j ≡ selected (λ u. wrote s u j && update_at₂ (applied s) t p true u q) (written_version s j) (decisions h)
-  apply_lists_applied h s t p l c i ok q j g = elim (cases_Bool (eqb p q && (holds q j && wrote s t j))) [
+  apply_lists_applied h s t p l c i ok q j g = elim (cases_Bool (p == q && (holds q j && wrote s t j))) [
     | inl e ↦
         let pq : p ≡ q = first e in
         let wt : wrote s t j ≡ true = second e in
@@ -53,16 +53,16 @@ module _ (holds : Placement) (modulus : ℕ) where
     | inr e ↦ rw e (i.lists_applied q j g ∙ selected_same _ _ _ _ (decisions h) (λ u m. (unmoved u e, refl)))
   ]
     where
-      first : (eqb p q && (holds q j && wrote s t j)) ≡ true → p ≡ q
+      first : (p == q && (holds q j && wrote s t j)) ≡ true → p ≡ q
       first e = grind arith
 
-      second : (eqb p q && (holds q j && wrote s t j)) ≡ true → wrote s t j ≡ true
+      second : (p == q && (holds q j && wrote s t j)) ≡ true → wrote s t j ≡ true
       second e = grind arith
 
       now : wrote s t j ≡ true → p ≡ q → (wrote s t j && update_at₂ (applied s) t p true t q) ≡ true
       now a b = grind arith
 
-      unmoved : (u : ℕ) → (eqb p q && (holds q j && wrote s t j)) ≡ false →
+      unmoved : (u : ℕ) → (p == q && (holds q j && wrote s t j)) ≡ false →
           (wrote s u j && applied s u q) ≡ (wrote s u j && update_at₂ (applied s) t p true u q)
       unmoved u e = grind arith
 
@@ -89,11 +89,11 @@ module _ (holds : Placement) (modulus : ℕ) where
   apply_note_current h s t p l i ok u q k e₁ e₂ e₃ e₄ =
       let eu = drop (engaged s) t p u q e₁ in
       let d : t ≡ u → ⊥ = differ (status s) u t Offered e₂ refl (l.learned_committed t p ok.learned_there ok.engaged_there) in
-      let quiet : (eqb p q && (holds q k && wrote s t k)) ≡ false = unwritten ok.engaged_there (λ et. l.engaged_compatible t u q k et eu d e₄) e₃ in
+      let quiet : (p == q && (holds q k && wrote s t k)) ≡ false = unwritten ok.engaged_there (λ et. l.engaged_compatible t u q k et eu d e₄) e₃ in
       rw quiet (i.note_current u q k eu e₂ e₃ e₄)
     where
       unwritten : engaged s t p ≡ true → (engaged s t q ≡ true → conflict s t u k ≡ false) → noted s u k ≡ true →
-          (eqb p q && (holds q k && wrote s t k)) ≡ false
+          (p == q && (holds q k && wrote s t k)) ≡ false
       unwritten a b c = grind arith
 
   chains_read_update : (h : List Event) (s : State) (t k p : ℕ) (a : Version) (c : Clock) → status s t ≡ Open → Chains h s →

@@ -1,5 +1,5 @@
 -- Every history stands: the remaining statements, and all of them together.
-use Rattle.std.proofs.Common.{◌≡◌, ℕ, ◌%◌, ◌<◌, Bool, true, false, ◌&&◌, ◌||◌, eqb, List, [], ◌∷◌, sym, refl, ap, ◌∙◌, inl, inr, arith}
+use Rattle.std.proofs.Common.{◌≡◌, ℕ, ◌%◌, ◌<◌, Bool, true, false, ◌&&◌, ◌||◌, List, [], ◌∷◌, sym, refl, ap, ◌∙◌, inl, inr, arith, ◌==◌}
 use Rattle.std.proofs.lemmas.Bool.{cases_Bool, cases_lt, or_cases, both_ways, and_parts}
 use Rattle.history.specs.Table.{Version, version, selected, newest}
 use Rattle.history.specs.Protocol.{Placement, Clock, State, clock, read_at, wrote, value, stamp, commit_clock, frontier, engaged, applied, chain, Event, Passes, NewestPassing, WriteNode, MayRead}
@@ -70,13 +70,13 @@ module _ (holds : Placement) (modulus : ℕ) where
       ]
 
       passes : (k : ℕ) (a : Version) (c : Clock) → MayRead holds s t k p a c → (x : Version) (l : List Version) → chain s p k ≡ x ∷ l →
-          Passes (commit_clock s x.writer) (λ q. eqb p q || read_at s t q) c
+          Passes (commit_clock s x.writer) (λ q. (p == q) || read_at s t q) c
       passes k a c ok x l e q r =
           let v = head_passes (λ u. wrote s u k && applied s u p) (λ u. value s u k) (decisions h) x l (sym (i.ground.chains.lists_applied p k ok.held) ∙ e) in
           ok.joined.takes x.writer (unread p) ((and_parts (wrote s x.writer k) (applied s x.writer p) v).1) (λ z rz. absurd (both_ways (read_at s t z) (unread z) rz)) q
 
       go : (k : ℕ) (a : Version) (c : Clock) → MayRead holds s t k p a c → (l : List Version) → chain s p k ≡ l →
-          NewestPassing s (λ q. eqb p q || read_at s t q) c l a → a ≡ newest (chain s p k)
+          NewestPassing s (λ q. (p == q) || read_at s t q) c l a → a ≡ newest (chain s p k)
       go k a c ok [] e f = f ∙ ap newest (sym e)
       go k a c ok (x ∷ l) e (inl f) = f.1 ∙ ap newest (sym e)
       go k a c ok (x ∷ l) e (inr f) = absurd (f.0 (passes k a c ok x l e))

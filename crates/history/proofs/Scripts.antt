@@ -1,12 +1,12 @@
 -- The scripts: the script of a transaction in the history says what it has read and written.
-use Rattle.std.proofs.Common.{◌≡◌, ℕ, true, cond, eqb, List, [], ◌∷◌, refl, ◌∙◌, inl, inr, arith}
+use Rattle.std.proofs.Common.{◌≡◌, ℕ, true, cond, List, [], ◌∷◌, refl, ◌∙◌, inl, inr, arith, ◌==◌}
 use Rattle.history.specs.Table.{Version, version, Table, Operation, get, after, answers, gets, puts}
 use Rattle.history.specs.Protocol.{Placement, Clock, Update, Unbegun, State, kind, status, wrote, value, touched, Event, read_search, read_update, next, Accepted}
 use Rattle.history.specs.History.{script, got, WasRead}
 use Rattle.history.proofs.Basics.{frozen}
 
 get_answers : (x t k : ℕ) (a : Version) (s : List Operation) (g : List Version) (tb : Table) → (x ≡ t → after x s tb k ≡ a) → answers x s tb ≡ g →
-    answers x (cond (eqb t x) (get k ∷ s) s) tb ≡ cond (eqb t x) (a ∷ g) g
+    answers x (cond (t == x) (get k ∷ s) s) tb ≡ cond (t == x) (a ∷ g) g
 get_answers x t k a s g tb f e = grind arith
 
 module _ (holds : Placement) (modulus : ℕ) where

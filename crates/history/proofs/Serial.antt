@@ -1,5 +1,5 @@
 -- The serial orders: that of decision for the committed updates, and one with a place for whoever has not committed.
-use Rattle.std.proofs.Common.{◌≡◌, ℕ, zero, suc, ◌<◌, ◌≤◌, Bool, true, false, not, ◌&&◌, ◌||◌, leb, ◌⊎◌, List, [], ◌∷◌, ◌++◌, sym, refl, ap, ◌∙◌, subst, inl, inr, le_trans, arith, filter}
+use Rattle.std.proofs.Common.{◌≡◌, ℕ, zero, suc, ◌<◌, ◌≤◌, Bool, true, false, not, ◌&&◌, ◌||◌, nat_le, ◌⊎◌, List, [], ◌∷◌, ◌++◌, sym, refl, ap, ◌∙◌, subst, inl, inr, le_trans, arith, filter}
 use mathlib.Core.Path.{fun_ext}
 use Rattle.std.proofs.lemmas.Bool.{cases_Bool, or_left, and_from, both_ways, false≢true, and_parts}
 use Rattle.std.proofs.lemmas.Bool.Decides.{Decides-below_and, leb_tells, nat_tests}
@@ -252,7 +252,7 @@ module _ (holds : Placement) (modulus : ℕ) where
   -- ── Visibility is a test, for finitely many nodes ──
 
   abbrev sees_at : State → ℕ → ℕ → ℕ → Bool
-  sees_at s u t q = not (read_at s t q) || leb (commit_clock s u q) (clock s t q)
+  sees_at s u t q = not (read_at s t q) || nat_le (commit_clock s u q) (clock s t q)
 
   abbrev sees_below : ℕ → State → ℕ → ℕ → Bool
   sees_below zero s u t = true
@@ -269,8 +269,8 @@ module _ (holds : Placement) (modulus : ℕ) where
       each q = (λ e r. grind (arith, nat_tests), λ f. go (read_at s t q) (leb_tells (commit_clock s u q) (clock s t q)) f)
         where
           go : (b : Bool) →
-              ((leb (commit_clock s u q) (clock s t q) ≡ true) × (commit_clock s u q ≤ clock s t q)) ⊎ ((leb (commit_clock s u q) (clock s t q) ≡ false) × (clock s t q < commit_clock s u q)) →
-              (b ≡ true → commit_clock s u q ≤ clock s t q) → (not b || leb (commit_clock s u q) (clock s t q)) ≡ true
+              ((nat_le (commit_clock s u q) (clock s t q) ≡ true) × (commit_clock s u q ≤ clock s t q)) ⊎ ((nat_le (commit_clock s u q) (clock s t q) ≡ false) × (clock s t q < commit_clock s u q)) →
+              (b ≡ true → commit_clock s u q ≤ clock s t q) → (not b || nat_le (commit_clock s u q) (clock s t q)) ≡ true
           go b e1 e2 = grind arith
 
   pub uncommitted_placed : {h : List Event} {s : State} → Reachable holds modulus h s → (nodes : ℕ) → ((p k : ℕ) → holds p k ≡ true → p < nodes) →

@@ -1,5 +1,5 @@
 -- The snapshots: what a transaction that has not committed has read is one state of the committed updates.
-use Rattle.std.proofs.Common.{◌≡◌, ℕ, ◌≤◌, Bool, true, false, cond, ◌&&◌, ◌||◌, eqb, ◌⊎◌, List, [], ◌∷◌, sym, refl, ap, ◌∙◌, subst, inl, inr, le_trans, arith}
+use Rattle.std.proofs.Common.{◌≡◌, ℕ, ◌≤◌, Bool, true, false, cond, ◌&&◌, ◌||◌, ◌⊎◌, List, [], ◌∷◌, sym, refl, ap, ◌∙◌, subst, inl, inr, le_trans, arith, ◌==◌}
 use Rattle.std.proofs.lemmas.Bool.{cases_eq, cases_Bool, or_right, and_from, both_ways, and_parts}
 use Rattle.history.specs.Table.{Version, first_version, update_at, Member, Later, selected}
 use Rattle.history.specs.Protocol.{Placement, Clock, Kind, Update, Status, Open, Offered, Committed, Aborted, State, kind, status, clock, read_at, noted, noted_writer, wrote, commit_clock, frontier, engaged, applied, written_version, first_noted, becomes, change_transaction, Event, begin, read_search, read_update, commit, cancel, Passes, Visible, Joined, NewestPassing, MayRead, next, Accepted}
@@ -49,12 +49,12 @@ newest_selected s at c v k (x ∷ l) a n = go (newest_selected s at c v k l a) (
 
 -- ── What a read changes ──
 
-here_too : (r : ℕ → ℕ → Bool) (t p : ℕ) → (eqb p p || r t p) ≡ true
+here_too : (r : ℕ → ℕ → Bool) (t p : ℕ) → (p == p || r t p) ≡ true
 here_too r t p = grind arith
 
 -- what passes after a read
 passes_now : (s : State) (t p : ℕ) (c x : Clock) → Passes x (update_at₂ (read_at s) t p true t) (update_at (clock s) t c t) →
-    Passes x (λ q. eqb p q || read_at s t q) c
+    Passes x (λ q. (p == q) || read_at s t q) c
 passes_now s t p c x v q r = grind arith
 
 clock_grows : (s : State) (t p : ℕ) (c : Clock) → Joined s t p c → (u q : ℕ) → clock s u q ≤ update_at (clock s) t c u q
@@ -174,7 +174,7 @@ module _ (holds : Placement) (modulus : ℕ) where
       pass u = wrote s u k && applied s u p
 
       at' : ℕ → Bool
-      at' q = eqb p q || read_at s t q
+      at' q = (p == q) || read_at s t q
 
       n : ((a ≡ first_version) ⊎ (Member a.writer (decisions h) × (pass a.writer ≡ true) × (a ≡ written_version s k a.writer) × Passes (commit_clock s a.writer) at' c))
           × ((u : ℕ) → Member u (decisions h) → pass u ≡ true → Passes (commit_clock s u) at' c → (u ≡ a.writer) ⊎ Later a.writer u (decisions h))
@@ -182,7 +182,7 @@ module _ (holds : Placement) (modulus : ℕ) where
 
       bound : (w : ℕ) → applied s w p ≡ true → Passes (commit_clock s w) at' c → (q : ℕ) → commit_clock s w q ≤ c q
       bound w aw v q =
-          let vis : Visible s w t = λ z r. le_trans (v z (or_right (eqb p z) (read_at s t z) r)) (slot_kept s t p c ok.joined z r) in
+          let vis : Visible s w t = λ z r. le_trans (v z (or_right (p == z) (read_at s t z) r)) (slot_kept s t p c ok.joined z r) in
           elim (cases_Bool (read_at s t p)) [
             | inl r ↦ le_trans (inside t p w r aw vis q) (ok.joined.above q)
             | inr r ↦ ok.joined.takes w r aw vis q

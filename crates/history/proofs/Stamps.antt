@@ -1,5 +1,5 @@
 -- The stamps in the clocks: clocks are only ever joined whole, so every slot of a clock names a committed update that is within it.
-use Rattle.std.proofs.Common.{◌≡◌, ℕ, ◌≤◌, max, true, false, eqb, ◌⊎◌, sym, ap, ◌∙◌, inl, inr, arith}
+use Rattle.std.proofs.Common.{◌≡◌, ℕ, ◌≤◌, max, true, false, ◌⊎◌, sym, ap, ◌∙◌, inl, inr, arith, ◌==◌}
 use Rattle.std.proofs.lemmas.Bool.{cases_eq, cases_lt, both_ways, cond_both}
 use Rattle.history.specs.Table.{Version, update_at}
 use Rattle.history.specs.Protocol.{Placement, Clock, join, Offered, Committed, State, status, clock, read_at, wrote, vote_clock, stamp, commit_clock, seen, base_clock, sees, change_node, Event, read_search, read_update, yes_write, yes_read, commit, learn_read, apply, Joined, WriteNode, MayRead, next, Accepted}
@@ -8,7 +8,7 @@ use Rattle.history.proofs.Locks.{Locks}
 use Rattle.history.proofs.Numbers.{commit_above}
 
 each_clock : (Q : Clock → Type 0) (f : ℕ → Clock) (t : ℕ) (c : Clock) → ((x : ℕ) → Q (f x)) → Q c → (x : ℕ) → Q (update_at f t c x)
-each_clock Q f t c g h x = cond_both (eqb t x) c (f x) Q (λ _. h) (λ _. g x)
+each_clock Q f t c g h x = cond_both (t == x) c (f x) Q (λ _. h) (λ _. g x)
 
 max_either : (a b : ℕ) → (max a b ≡ a) ⊎ (max a b ≡ b)
 max_either a b = elim (cases_lt a b) [ inl h ↦ inr (omega arith) | inr h ↦ inl (omega arith) ]

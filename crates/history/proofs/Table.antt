@@ -1,5 +1,5 @@
 -- On one table, two neighbours without conflict may be exchanged; so an order may be parted stably.
-use Rattle.std.proofs.Common.{◌≡◌, ℕ, Bool, true, false, cond, not, eqb, ◌⊎◌, List, [], ◌∷◌, ◌++◌, sym, refl, ap, ◌∙◌, inl, inr, arith, filter}
+use Rattle.std.proofs.Common.{◌≡◌, ℕ, Bool, true, false, cond, not, ◌⊎◌, List, [], ◌∷◌, ◌++◌, sym, refl, ap, ◌∙◌, inl, inr, arith, filter, ◌==◌}
 use mathlib.Core.Path.{fun_ext}
 use mathlib.Core.List.Permᴰ
 use mathlib.Core.List.{Permᴰ}
@@ -31,7 +31,7 @@ after_out : (t : ℕ) (s : List Operation) (f : Table) (k : ℕ) → puts s k �
 after_out t [] f k e = refl
 after_out t (get j ∷ s) f k e = after_out t s f k e
 after_out t (put j v ∷ s) f k e =
-    let h = or_parts (eqb j k) (puts s k) e in
+    let h = or_parts (j == k) (puts s k) e in
     rw h.0 (after_out t s f k h.1)
 
 -- its answers depend on the keys that it reads only
@@ -39,7 +39,7 @@ answers_local : (t : ℕ) (s : List Operation) (f g : Table) → ((k : ℕ) → 
 answers_local t [] f g h = refl
 answers_local t (get j ∷ s) f g h =
     let here = after_local t s f g j (h j (rw (eq-eqb j j refl))) in
-    let rest = answers_local t s f g (λ k e. h k (or_right (eqb j k) (gets s k) e)) in
+    let rest = answers_local t s f g (λ k e. h k (or_right (j == k) (gets s k) e)) in
     cc
 answers_local t (put j v ∷ s) f g h = answers_local t s f g h
 

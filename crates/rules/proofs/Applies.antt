@@ -1,5 +1,5 @@
 -- Apply: a node applies the update that waits there with the least number.
-use Rattle.std.proofs.Common.{◌≡◌, ℕ, ◌+◌, ◌<◌, ◌≤◌, Bool, true, cond, ◌&&◌, eqb, ltb, leb, [], ◌∷◌, ◌++◌, map, length, set, Some, None, Option, sym, refl, ap, ◌∙◌, subst, inr, ⊎_elim, arith}
+use Rattle.std.proofs.Common.{◌≡◌, ℕ, ◌+◌, ◌<◌, ◌≤◌, Bool, true, cond, ◌&&◌, nat_lt, nat_le, [], ◌∷◌, ◌++◌, map, length, slice_set, Some, None, Option, sym, refl, ap, ◌∙◌, subst, inr, ⊎_elim, arith, ◌==◌}
 use Rattle.std.proofs.lemmas.List.{length-set}
 use Rattle.std.proofs.lemmas.Bool.{cases_eq, and_parts, and_from, and_left, lt-ltb, le-leb, ne_eqb}
 use Rattle.std.proofs.lemmas.Bool.Decides.{nat_tests}
@@ -39,7 +39,7 @@ chain_view : (b : Bool) (v : Stored) (c : Chain) → without_last c.versions ++ 
     map version_of (without_last (cond b (one_put v c) c).versions) ≡ cond b (version_of v ∷ map version_of (without_last c.versions)) (map version_of (without_last c.versions))
 chain_view b v c e1 = grind (arith, nat_tests)
 
-asked_test : (a : ℕ) (written held inside : Bool) → a ≡ cond ((written && held) && inside) 1 0 → (held ≡ true → inside ≡ true) → ltb 0 a ≡ held && written
+asked_test : (a : ℕ) (written held inside : Bool) → a ≡ cond ((written && held) && inside) 1 0 → (held ≡ true → inside ≡ true) → nat_lt 0 a ≡ held && written
 asked_test a written held inside e1 e2 = grind (arith, nat_tests)
 
 module _ (w : World) (inv : Invariant w) (t p : ℕ) (begun : is_begun w t ≡ true) (there : is_node w p ≡ true) (engaged : marked (transaction w t).engaged p ≡ true) where
@@ -58,7 +58,7 @@ module _ (w : World) (inv : Invariant w) (t p : ℕ) (begun : is_begun w t ≡ t
   after_later : Later w x after
   after_later = grind (arith, nat_tests, common_steps)
 
-  after_view : (q : ℕ) → participation_of after q ≡ protocol.releases (eqb p q) (protocol.applies (eqb p q) (participation_of x q))
+  after_view : (q : ℕ) → participation_of after q ≡ protocol.releases (p == q) (protocol.applies (p == q) (participation_of x q))
   after_view q = grind (arith, nat_tests, common_steps)
 
   -- ── The node ──
@@ -72,7 +72,7 @@ module _ (w : World) (inv : Invariant w) (t p : ℕ) (begun : is_begun w t ≡ t
   store_then = put_all w.store p t x (written_at w x p)
 
   abbrev puts : ℕ → ℕ → Bool
-  puts q k = eqb p q && ltb 0 (asked (written_at w x p) k)
+  puts q k = (p == q) && nat_lt 0 (asked (written_at w x p) k)
 
   abbrev version_put : ℕ → Stored
   version_put k = record { value = written_value x k; writer = t }
@@ -85,16 +85,16 @@ module _ (w : World) (inv : Invariant w) (t p : ℕ) (begun : is_begun w t ≡ t
       subst (λ (c : Chain). without_last c.versions ++ first_version ∷ [] ≡ c.versions) (sym (chain_then q k))
       (chain_first_last (puts q k) (version_put k) (w.store q k) (inv.first_last q k))
 
-  puts_same : (q k : ℕ) → puts q k ≡ eqb p q && (holds w q k && protocol.wrote (view w) t k)
+  puts_same : (q k : ℕ) → puts q k ≡ (p == q) && (holds w q k && protocol.wrote (view w) t k)
   puts_same q k =
       ⊎_elim
       (λ (same : p ≡ q).
-      subst (λ (r : ℕ). puts r k ≡ eqb p r && (holds w r k && protocol.wrote (view w) t k)) same
-      (ap (λ (b : Bool). eqb p p && b)
-      (asked_test (asked (written_at w x p) k) (wrote x k) (holds w p k) (ltb k 64) (asked_written w x p k)
+      subst (λ (r : ℕ). puts r k ≡ (p == r) && (holds w r k && protocol.wrote (view w) t k)) same
+      (ap (λ (b : Bool). (p == p) && b)
+      (asked_test (asked (written_at w x p) k) (wrote x k) (holds w p k) (nat_lt k 64) (asked_written w x p k)
       (λ held. let key = (inv.holders p k held).1 in let keys = inv.few_keys in lt-ltb k 64 (omega arith))
       ∙ ap (λ (a : protocol.Transaction). holds w p k && a.writing.wrote k) (sym (view_begun w t begun)))))
-      (λ (apart : p ≡ q → ⊥). and_left (eqb p q) (ltb 0 (asked (written_at w x p) k)) (ne_eqb p q apart) ∙ sym (and_left (eqb p q) (holds w q k && protocol.wrote (view w) t k) (ne_eqb p q apart)))
+      (λ (apart : p ≡ q → ⊥). and_left (p == q) (nat_lt 0 (asked (written_at w x p) k)) (ne_eqb p q apart) ∙ sym (and_left (p == q) (holds w q k && protocol.wrote (view w) t k) (ne_eqb p q apart)))
       (cases_eq p q)
 
   chains_view : (q k : ℕ) → map version_of (without_last (store_then q k).versions) ≡ protocol.put_versions (placed w.placement) (view w) t p q k
@@ -102,7 +102,7 @@ module _ (w : World) (inv : Invariant w) (t p : ℕ) (begun : is_begun w t ≡ t
       ap (λ (c : Chain). map version_of (without_last c.versions)) (chain_then q k)
       ∙ chain_view (puts q k) (version_put k) (w.store q k) (inv.first_last q k)
       ∙ ap (λ (b : Bool). cond b (version_of (version_put k) ∷ (view w).chain q k) ((view w).chain q k)) (puts_same q k)
-      ∙ ap (λ (a : protocol.Transaction). cond (eqb p q && (holds w q k && protocol.wrote (view w) t k)) (version (a.writing.value k) t ∷ (view w).chain q k) ((view w).chain q k)) (sym (view_begun w t begun))
+      ∙ ap (λ (a : protocol.Transaction). cond (p == q && (holds w q k && protocol.wrote (view w) t k)) (version (a.writing.value k) t ∷ (view w).chain q k) ((view w).chain q k)) (sym (view_begun w t begun))
 
   apply_fits : is_write_node w x p ≡ true → marked x.learned p ≡ true →
       ((u : ℕ) → 1 ≤ u → u < 1 + length w.transactions → waits w p u ≡ true → number_at w p t ≤ number_at w p u) →
@@ -111,7 +111,7 @@ module _ (w : World) (inv : Invariant w) (t p : ℕ) (begun : is_begun w t ≡ t
       record {
         same_placement = refl;
         keeps =
-            keeps_change w (set w.nodes p node_then) t after store_then inv begun (length-set w.nodes p node_then)
+            keeps_change w (slice_set w.nodes p node_then) t after store_then inv begun (length-set w.nodes p node_then)
             (seen_after w p node_then inv there (length-join (node w p).seen x.commit))
             (later_fits w x after (fits w t inv begun) after_later) first_last_then
             (put_balance w inv t p begun (let l = shape.engaged in let b = below in omega arith) engaged);
@@ -133,9 +133,9 @@ module _ (w : World) (inv : Invariant w) (t p : ℕ) (begun : is_begun w t ≡ t
                     let l = least u (omega arith) (omega arith) (and_from (marked (transaction w u).engaged p) (is_write_node w (transaction w u) p) r.1 (write_node_world w inv u r.0 p writes')) in
                     omega arith;
               },
-              view_changed w (set w.nodes p node_then) t after store_then begun (λ here a. a) p
+              view_changed w (slice_set w.nodes p node_then) t after store_then begun (λ here a. a) p
                   (λ here a. protocol.releases here (protocol.applies here a))
-                  (λ q. protocol.advances (protocol.stamp (view w) t) (eqb p q) (protocol.sees (protocol.join (protocol.seen (view w) p) (protocol.commit_clock (view w) t)) (eqb p q) ((view w).node q)))
+                  (λ q. protocol.advances (protocol.stamp (view w) t) (p == q) (protocol.sees (protocol.join (protocol.seen (view w) p) (protocol.commit_clock (view w) t)) (p == q) ((view w).node q)))
                   (protocol.put_versions (placed w.placement) (view w) t p)
                   (λ a. refl) refl (λ a. refl) after_view
                   (view_node w p node_then (λ here a. protocol.advances (protocol.stamp (view w) t) here (protocol.sees (protocol.join (protocol.seen (view w) p) (protocol.commit_clock (view w) t)) here a)) there (λ a. refl)
@@ -151,7 +151,7 @@ waiting_begun w p t e =
     let found = least_waiting_is w p t e in
     let a = found.1 in
     let b = found.2 in
-    and_from (ltb 0 t) (leb t (length w.transactions)) (lt-ltb 0 t (omega arith)) (le-leb t (length w.transactions) (omega arith))
+    and_from (nat_lt 0 t) (nat_le t (length w.transactions)) (lt-ltb 0 t (omega arith)) (le-leb t (length w.transactions) (omega arith))
 
 module _ (w : World) (inv : Invariant w) (p : ℕ) (there : is_node w p ≡ true) where
   applied : (o : Option ℕ) → least_waiting w p ≡ o → GoodOutcome w (apply p) (apply_least w p o)

@@ -1,5 +1,5 @@
 -- Beginning a transaction.
-use Rattle.std.proofs.Common.{◌≡◌, ℕ, zero, suc, ◌+◌, ◌<◌, Bool, true, false, cond, ◌&&◌, ◌||◌, eqb, ltb, List, [], ◌∷◌, ◌++◌, length, get_or, replicate, None, Option, sym, refl, ap, ◌∙◌, subst, inr, ⊎_elim, arith}
+use Rattle.std.proofs.Common.{◌≡◌, ℕ, zero, suc, ◌+◌, ◌<◌, Bool, true, false, cond, ◌&&◌, ◌||◌, nat_lt, List, [], ◌∷◌, ◌++◌, length, slice_index_or, replicate, None, Option, sym, refl, ap, ◌∙◌, subst, inr, ⊎_elim, arith, ◌==◌}
 use Rattle.std.proofs.lemmas.List.{length-append}
 use Rattle.std.proofs.lemmas.Bool.{or_from, eq-eqb, cases_Bool, both_ways, ltb-true, cond-false}
 use Rattle.std.proofs.lemmas.Bool.Decides.{nat_tests}
@@ -24,7 +24,7 @@ use Rattle.rules.proofs.Keeping.{Fits, fits}
 use Rattle.rules.proofs.States.{bit_zero}
 
 -- A row that holds its default everywhere.
-pub get_or-blank : {X : Type 0} (n i : ℕ) (d : X) → get_or (replicate n d) i d ≡ d
+pub get_or-blank : {X : Type 0} (n i : ℕ) (d : X) → slice_index_or (replicate n d) i d ≡ d
 get_or-blank zero i d = refl
 get_or-blank (suc n) zero d = refl
 get_or-blank (suc n) (suc i) d = get_or-blank n i d
@@ -38,7 +38,7 @@ module _ (kind : Kind) where
   unwritten : (k : ℕ) → wrote (new_transaction kind) k ≡ false
   unwritten k = ap (λ (o : Option ℕ). is_there o) (get_or-blank {X = Option ℕ} 64 k None)
 
-  no_value : (k : ℕ) → value_or (get_or (replicate {A = Option ℕ} 64 None) k None) 0 ≡ 0
+  no_value : (k : ℕ) → value_or (slice_index_or (replicate {A = Option ℕ} 64 None) k None) 0 ≡ 0
   no_value k = ap (λ (o : Option ℕ). value_or o 0) (get_or-blank {X = Option ℕ} 64 k None)
 
   untouched : (k : ℕ) → (noted (new_transaction kind) k || wrote (new_transaction kind) k) ≡ true → ⊥
@@ -77,17 +77,17 @@ module _ (w : World) (kind : Kind) where
   count = length-append w.transactions (new_transaction kind ∷ [])
 
   -- It is the new one.
-  pub begun_here : (u : ℕ) → eqb (length w.transactions + 1) u ≡ true →
+  pub begun_here : (u : ℕ) → ((length w.transactions + 1) == u) ≡ true →
       (is_begun w u ≡ false) × (is_begun (begun_world w kind) u ≡ true) × (transaction (begun_world w kind) u ≡ new_transaction kind)
   begun_here u e = grind (arith, nat_tests, common_steps)
 
   -- It is another.
-  pub begun_there : (u : ℕ) → eqb (length w.transactions + 1) u ≡ false →
+  pub begun_there : (u : ℕ) → ((length w.transactions + 1) == u) ≡ false →
       (is_begun (begun_world w kind) u ≡ is_begun w u) × (is_begun w u ≡ true → transaction (begun_world w kind) u ≡ transaction w u)
   begun_there u e = grind (arith, nat_tests, common_steps)
 
   begun_seen : {A : Type 0} (v : Transaction → A) (d : A) (f : Bool → A → A) → ((a : A) → f false a ≡ a) → v (new_transaction kind) ≡ f true d → (u : ℕ) →
-      cond (is_begun (begun_world w kind) u) (v (transaction (begun_world w kind) u)) d ≡ f (eqb (length w.transactions + 1) u) (cond (is_begun w u) (v (transaction w u)) d)
+      cond (is_begun (begun_world w kind) u) (v (transaction (begun_world w kind) u)) d ≡ f ((length w.transactions + 1) == u) (cond (is_begun w u) (v (transaction w u)) d)
   begun_seen v d f rest e u = grind (arith, nat_tests, common_steps)
 
   begun_view : view (begun_world w kind) ≡ protocol.change_transaction (length w.transactions + 1) (protocol.begins (kind_of kind)) (view w)
@@ -101,11 +101,11 @@ module _ (w : World) (kind : Kind) where
   fits_all : Invariant w → (u : ℕ) → is_begun (begun_world w kind) u ≡ true → Fits w (transaction (begun_world w kind) u)
   fits_all now u b =
       ⊎_elim
-      (λ (e : eqb (length w.transactions + 1) u ≡ true). subst (λ (x : Transaction). Fits w x) (sym (begun_here u e).2) (fits_new kind w))
-      (λ (e : eqb (length w.transactions + 1) u ≡ false).
+      (λ (e : ((length w.transactions + 1) == u) ≡ true). subst (λ (x : Transaction). Fits w x) (sym (begun_here u e).2) (fits_new kind w))
+      (λ (e : ((length w.transactions + 1) == u) ≡ false).
       let before : is_begun w u ≡ true = sym (begun_there u e).0 ∙ b in
       subst (λ (x : Transaction). Fits w x) (sym ((begun_there u e).1 before)) (fits w u now before))
-      (cases_Bool (eqb (length w.transactions + 1) u))
+      (cases_Bool ((length w.transactions + 1) == u))
 
   -- The new one is engaged nowhere.
   writers_more : (p k : ℕ) (xs : List Transaction) → engaged_writers w p k (xs ++ new_transaction kind ∷ []) ≡ engaged_writers w p k xs
@@ -135,7 +135,7 @@ module _ (w : World) (kind : Kind) where
 
   begun_now : (mode : ℕ) → Invariant w → GoodOutcome w (begin mode) (begin_call w kind)
   begun_now mode now =
-      checked (ltb (length w.transactions) 255) w (begin mode) NumbersUsedUp (Begun (length w.transactions + 1), begun_world w kind) now
+      checked (nat_lt (length w.transactions) 255) w (begin mode) NumbersUsedUp (Begun (length w.transactions + 1), begun_world w kind) now
       (λ room. record {
         same_placement = refl;
         keeps = begun_keeps now (ltb-true (length w.transactions) 255 room);

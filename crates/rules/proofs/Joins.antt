@@ -1,5 +1,5 @@
 -- The clock of a transaction after a read: which commit clocks pass, and what their join is.
-use Rattle.std.proofs.Common.{◌≡◌, ℕ, zero, suc, ◌+◌, ◌-◌, ◌<◌, ◌≤◌, max, Bool, true, false, cond, ◌&&◌, eqb, ◌⊎◌, List, [], ◌∷◌, length, get_or, Decides, fold, sym, refl, ap, ◌∙◌, subst, inl, inr, ⊎_elim, arith}
+use Rattle.std.proofs.Common.{◌≡◌, ℕ, zero, suc, ◌+◌, ◌-◌, ◌<◌, ◌≤◌, max, Bool, true, false, cond, ◌&&◌, ◌⊎◌, List, [], ◌∷◌, length, slice_index_or, Decides, fold, sym, refl, ap, ◌∙◌, subst, inl, inr, ⊎_elim, arith, ◌==◌}
 use Rattle.std.proofs.lemmas.Bool.{and_parts, and_from, cases_lt, cases_Bool, both_ways, cond-false}
 use Rattle.std.proofs.lemmas.Bool.Decides.{nat_tests}
 use Rattle.std.proofs.lemmas.Grind.{common_steps}
@@ -51,8 +51,8 @@ module _ (test : Transaction → Bool) where
       ⊎_elim (λ (e : test u ≡ true). let now : slot (joined_by joined u) q ≡ max (slot joined q) (slot u.commit q) = here ∙ rw e refl in omega arith)
       (λ (e : test u ≡ false). let now : slot (joined_by joined u) q ≡ slot joined q = here ∙ rw e refl in omega arith) (cases_Bool (test u))
 
-  pub joined_takes : (joined : List ℕ) (us : List Transaction) (i q : ℕ) (d : Transaction) → q < 8 → i < length us → test (get_or us i d) ≡ true →
-      slot (get_or us i d).commit q ≤ slot (fold joined_by joined us) q
+  pub joined_takes : (joined : List ℕ) (us : List Transaction) (i q : ℕ) (d : Transaction) → q < 8 → i < length us → test (slice_index_or us i d) ≡ true →
+      slot (slice_index_or us i d).commit q ≤ slot (fold joined_by joined us) q
   joined_takes joined [] i q d l below e = absurd (omega arith)
   joined_takes joined (u ∷ us) zero q d l below e =
       let rest = joined_above (joined_by joined u) us q l in
@@ -62,7 +62,7 @@ module _ (test : Transaction → Bool) where
 
   pub joined_least : (joined : List ℕ) (us : List Transaction) (q : ℕ) (d : Transaction) → q < 8 →
       (slot (fold joined_by joined us) q ≡ slot joined q)
-      ⊎ ((i : ℕ) × (i < length us) × (test (get_or us i d) ≡ true) × (slot (fold joined_by joined us) q ≡ slot (get_or us i d).commit q))
+      ⊎ ((i : ℕ) × (i < length us) × (test (slice_index_or us i d) ≡ true) × (slot (fold joined_by joined us) q ≡ slot (slice_index_or us i d).commit q))
   joined_least joined [] q d l = inl refl
   joined_least joined (u ∷ us) q d l =
       ⊎_elim
@@ -73,14 +73,14 @@ module _ (test : Transaction → Bool) where
       ⊎_elim (λ (m : slot joined q < slot u.commit q). inr (0, omega arith, h, omega arith)) (λ (m : slot u.commit q ≤ slot joined q). inl (omega arith)) (cases_lt (slot joined q) (slot u.commit q)))
       (λ (h : test u ≡ false). inl (e ∙ one_joined joined u q l ∙ rw h refl))
       (cases_Bool (test u)))
-      (λ (f : (i : ℕ) × (i < length us) × (test (get_or us i d) ≡ true) × (slot (fold joined_by (joined_by joined u) us) q ≡ slot (get_or us i d).commit q)).
+      (λ (f : (i : ℕ) × (i < length us) × (test (slice_index_or us i d) ≡ true) × (slot (fold joined_by (joined_by joined u) us) q ≡ slot (slice_index_or us i d).commit q)).
       inr (suc f.0, omega (arith, f.1), f.2, f.3))
       (joined_least (joined_by joined u) us q d l)
 
 -- ── In a world ──
 
 begun_commit : (w : World) (u : ℕ) → is_begun w u ≡ true → commit_clock w u ≡ (transaction w u).commit
-begun_commit w u b = cond-false (eqb u 0) zero_clock (transaction w u).commit (grind (arith, nat_tests))
+begun_commit w u b = cond-false (u == 0) zero_clock (transaction w u).commit (grind (arith, nat_tests))
 
 -- The commit clock of any writer, begun or not.
 pub commit_seen : (w : World) (u q : ℕ) → protocol.commit_clock (view w) u q ≡ slot (commit_clock w u) q
@@ -146,14 +146,14 @@ module _ (w : World) (t p : ℕ) (now : Invariant w) (begun : is_begun w t ≡ t
       ⊎_elim
       (λ (l : q < 8).
       ⊎_elim inl
-      (λ (f : (i : ℕ) × (i < length w.transactions) × (joins_in (get_or w.transactions i (new_transaction Search)) ≡ true) × (slot joined_clock q ≡ slot (get_or w.transactions i (new_transaction Search)).commit q)).
+      (λ (f : (i : ℕ) × (i < length w.transactions) × (joins_in (slice_index_or w.transactions i (new_transaction Search)) ≡ true) × (slot joined_clock q ≡ slot (slice_index_or w.transactions i (new_transaction Search)).commit q)).
       let below = f.1 in
       let e : f.0 + 1 - 1 ≡ f.0 = omega arith in
       inr (
         f.0 + 1,
         grind (arith, nat_tests),
-        subst (λ (i : ℕ). joins_in (get_or w.transactions i (new_transaction Search)) ≡ true) (sym e) f.2,
-        subst (λ (i : ℕ). slot joined_clock q ≡ slot (get_or w.transactions i (new_transaction Search)).commit q) (sym e) f.3,
+        subst (λ (i : ℕ). joins_in (slice_index_or w.transactions i (new_transaction Search)) ≡ true) (sym e) f.2,
+        subst (λ (i : ℕ). slot joined_clock q ≡ slot (slice_index_or w.transactions i (new_transaction Search)).commit q) (sym e) f.3,
       ))
       (joined_least joins_in (transaction w t).clock w.transactions q (new_transaction Search) l))
       (λ (l : 8 ≤ q). inl (slot_past joined_clock q (joined_length joins_in (transaction w t).clock w.transactions (now.shaped t begun).clock) l ∙ sym (slot_past (transaction w t).clock q (now.shaped t begun).clock l)))

@@ -1,5 +1,5 @@
 -- The invariant after one transaction, some nodes and the store have changed.
-use Rattle.std.proofs.Common.{◌≡◌, ℕ, ◌+◌, ◌-◌, ◌<◌, Bool, true, false, cond, ◌||◌, List, [], ◌∷◌, ◌++◌, length, get_or, set, sym, refl, ap, arith}
+use Rattle.std.proofs.Common.{◌≡◌, ℕ, ◌+◌, ◌-◌, ◌<◌, Bool, true, false, cond, ◌||◌, List, [], ◌∷◌, ◌++◌, length, slice_index_or, slice_set, sym, refl, ap, arith}
 use Rattle.std.proofs.lemmas.Bool.Decides.{nat_tests}
 use Rattle.std.proofs.lemmas.Grind.{common_steps}
 use Rattle.clock.specs.Clocks.{slot, marked}
@@ -26,10 +26,10 @@ pub fits : (w : World) (t : ℕ) → Invariant w → is_begun w t ≡ true → F
 fits w t holds_now begun = grind (arith, nat_tests)
 
 abbrev pub changed_world : World → List Node → ℕ → Transaction → Meaning → World
-changed_world w nodes t y store = record { nodes = nodes; transactions = set w.transactions (t - 1) y; placement = w.placement; store = store }
+changed_world w nodes t y store = record { nodes = nodes; transactions = slice_set w.transactions (t - 1) y; placement = w.placement; store = store }
 
 pub keeps_change : (w : World) (nodes : List Node) (t : ℕ) (y : Transaction) (store : Meaning) → Invariant w → is_begun w t ≡ true →
-    length nodes ≡ length w.nodes → ((p : ℕ) → p < length w.nodes → length (get_or nodes p new_node).seen ≡ 8) → Fits w y →
+    length nodes ≡ length w.nodes → ((p : ℕ) → p < length w.nodes → length (slice_index_or nodes p new_node).seen ≡ 8) → Fits w y →
     ((p k : ℕ) → without_last (store p k).versions ++ first_version ∷ [] ≡ (store p k).versions) →
     ((p k : ℕ) → (store p k).aside + cond (engaged_writer w p k (transaction w t)) 1 0 ≡ (w.store p k).aside + cond (engaged_writer w p k y) 1 0) →
     Invariant (changed_world w nodes t y store)
@@ -51,7 +51,7 @@ keeps_change w nodes t y store now begun same_count seen fit first_last asides =
       polled_all = λ u p k b. (all u b).polled_all p k;
       numbers_there = λ u p b. (all u b).numbers_there p;
       first_last = first_last;
-      places = λ p k. omega (arith, asides p k, now.places p k, engaged_writers_after w t y p k begun, engaged_writers_placement (changed_world w nodes t y store) (with_transaction w t y) p k (set w.transactions (t - 1) y) refl);
+      places = λ p k. omega (arith, asides p k, now.places p k, engaged_writers_after w t y p k begun, engaged_writers_placement (changed_world w nodes t y store) (with_transaction w t y) p k (slice_set w.transactions (t - 1) y) refl);
       open_idle = λ u p b. (all u b).open_idle p;
       engaged_voted = λ u p b. (all u b).engaged_voted p;
     }

@@ -1,5 +1,5 @@
 -- Learn: a node learns the decision on an update that polls it.
-use Rattle.std.proofs.Common.{◌≡◌, ℕ, ◌<◌, max, Bool, true, false, cond, not, ◌&&◌, eqb, [], ◌∷◌, ◌++◌, map, length, set, sym, refl, ap, ◌∙◌, subst, inr, ⊎_elim, arith}
+use Rattle.std.proofs.Common.{◌≡◌, ℕ, ◌<◌, max, Bool, true, false, cond, not, ◌&&◌, [], ◌∷◌, ◌++◌, map, length, slice_set, sym, refl, ap, ◌∙◌, subst, inr, ⊎_elim, arith, ◌==◌}
 use Rattle.std.proofs.lemmas.List.{length-set}
 use Rattle.std.proofs.lemmas.Bool.{cases_Bool, both_ways, false≢true, and_parts, and_left, and_right, ltb-true, not-true}
 use Rattle.std.proofs.lemmas.Bool.Decides.{nat_tests}
@@ -52,9 +52,9 @@ module _ (w : World) (inv : Invariant w) (t p : ℕ) (begun : is_begun w t ≡ t
   released_later : (x.state ≡ Offered → ⊥) → (x.state ≡ Open → ⊥) → Later w x released
   released_later not_offered not_open = grind (arith, nat_tests, common_steps)
 
-  released_view : (q : ℕ) → participation_of released q ≡ protocol.releases (eqb p q) (protocol.learns (eqb p q) (participation_of x q))
+  released_view : (q : ℕ) → participation_of released q ≡ protocol.releases (p == q) (protocol.learns (p == q) (participation_of x q))
   released_view q =
-      let learned : marked (set x.learned p true) q ≡ cond (eqb p q) true (marked x.learned q) = marked_set x.learned p q true (let l = shape.learned in let b = below in omega arith) in
+      let learned : marked (slice_set x.learned p true) q ≡ cond (p == q) true (marked x.learned q) = marked_set x.learned p q true (let l = shape.learned in let b = below in omega arith) in
       λ i. record { voted = marked x.voted q; engaged = released_row w inv t p begun there q i; number = slot x.numbers q; learned = learned i; applied = marked x.applied q }
 
   -- ── An abort ──
@@ -100,11 +100,11 @@ module _ (w : World) (inv : Invariant w) (t p : ℕ) (begun : is_begun w t ≡ t
   restamped_later : x.state ≡ Committed → is_write_node w x p ≡ true → Later w x restamped
   restamped_later is writes = grind (arith, nat_tests, common_steps)
 
-  restamped_view : (q : ℕ) → participation_of restamped q ≡ protocol.takes_number (protocol.stamp (view w) t) (eqb p q) (protocol.learns (eqb p q) (participation_of x q))
+  restamped_view : (q : ℕ) → participation_of restamped q ≡ protocol.takes_number (protocol.stamp (view w) t) (p == q) (protocol.learns (p == q) (participation_of x q))
   restamped_view q =
-      let number : slot (set x.numbers p x.stamp) q ≡ cond (eqb p q) (protocol.stamp (view w) t) (slot x.numbers q) =
-      slot_set x.numbers p q x.stamp (let l = shape.numbers in let b = below in omega arith) ∙ ap (λ (n : ℕ). cond (eqb p q) n (slot x.numbers q)) (sym stamped) in
-      let learned : marked (set x.learned p true) q ≡ cond (eqb p q) true (marked x.learned q) = marked_set x.learned p q true (let l = shape.learned in let b = below in omega arith) in
+      let number : slot (slice_set x.numbers p x.stamp) q ≡ cond (p == q) (protocol.stamp (view w) t) (slot x.numbers q) =
+      slot_set x.numbers p q x.stamp (let l = shape.numbers in let b = below in omega arith) ∙ ap (λ (n : ℕ). cond (p == q) n (slot x.numbers q)) (sym stamped) in
+      let learned : marked (slice_set x.learned p true) q ≡ cond (p == q) true (marked x.learned q) = marked_set x.learned p q true (let l = shape.learned in let b = below in omega arith) in
       λ i. record { voted = marked x.voted q; engaged = marked x.engaged q; number = number i; learned = learned i; applied = marked x.applied q }
 
   abbrev raised : Node
@@ -115,16 +115,16 @@ module _ (w : World) (inv : Invariant w) (t p : ℕ) (begun : is_begun w t ≡ t
       record {
         same_placement = refl;
         keeps =
-            keeps_change w (set w.nodes p raised) t restamped w.store inv begun (length-set w.nodes p raised)
+            keeps_change w (slice_set w.nodes p raised) t restamped w.store inv begun (length-set w.nodes p raised)
             (seen_after w p raised inv there (inv.seen p (ltb-true p (length w.nodes) there)))
             (later_fits w x restamped (fits w t inv begun) (restamped_later is writes)) inv.first_last (λ q k. refl);
         refines =
             inr (
               protocol.learn_write t p,
               (may_learn Committed is, write_node_view w inv t begun p writes),
-              view_changed w (set w.nodes p raised) t restamped w.store begun (λ here a. a) p
+              view_changed w (slice_set w.nodes p raised) t restamped w.store begun (λ here a. a) p
                   (λ here a. protocol.takes_number (protocol.stamp (view w) t) here (protocol.learns here a))
-                  (λ q. protocol.counts (max (protocol.counter (view w) p) (protocol.stamp (view w) t)) (eqb p q) ((view w).node q)) (view w).chain
+                  (λ q. protocol.counts (max (protocol.counter (view w) p) (protocol.stamp (view w) t)) (p == q) ((view w).node q)) (view w).chain
                   (λ a. refl) refl (λ a. refl) restamped_view
                   (view_node w p raised (protocol.counts (max (protocol.counter (view w) p) (protocol.stamp (view w) t))) there (λ a. refl)
                   (λ i. record { counter = max (node w p).counter (sym stamped i); frontier = (node w p).frontier; seen = λ q. slot (node w p).seen q }))
@@ -155,7 +155,7 @@ module _ (w : World) (inv : Invariant w) (t p : ℕ) (begun : is_begun w t ≡ t
       record {
         same_placement = refl;
         keeps =
-            keeps_change w (set w.nodes p informed) t released w.store inv begun (length-set w.nodes p informed)
+            keeps_change w (slice_set w.nodes p informed) t released w.store inv begun (length-set w.nodes p informed)
             (seen_after w p informed inv there (length-join (node w p).seen x.commit))
             (later_fits w x released (fits w t inv begun) (released_later (λ e. false≢true (ap is_offered (sym is ∙ e))) (λ e. false≢true (ap is_open (sym is ∙ e)))))
             inv.first_last (idle_balance w inv t p begun (let l = shape.engaged in let b = below in omega arith) (nothing_there none));
@@ -163,9 +163,9 @@ module _ (w : World) (inv : Invariant w) (t p : ℕ) (begun : is_begun w t ≡ t
             inr (
               protocol.learn_read t p,
               (may_learn Committed is, no_write_node_view w inv t begun p none),
-              view_changed w (set w.nodes p informed) t released w.store begun (λ here a. a) p
+              view_changed w (slice_set w.nodes p informed) t released w.store begun (λ here a. a) p
                   (λ here a. protocol.releases here (protocol.learns here a))
-                  (λ q. protocol.sees (protocol.join (protocol.seen (view w) p) (protocol.commit_clock (view w) t)) (eqb p q) ((view w).node q)) (view w).chain
+                  (λ q. protocol.sees (protocol.join (protocol.seen (view w) p) (protocol.commit_clock (view w) t)) (p == q) ((view w).node q)) (view w).chain
                   (λ a. refl) refl (λ a. refl) released_view
                   (view_node w p informed (protocol.sees (protocol.join (protocol.seen (view w) p) (protocol.commit_clock (view w) t))) there (λ a. refl)
                   (λ i. record { counter = (node w p).counter; frontier = (node w p).frontier; seen = λ q. seen_view w inv t p begun there q i }))

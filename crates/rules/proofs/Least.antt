@@ -1,5 +1,5 @@
 -- The numbers that the calls give are the least with their property, and the update that apply takes has the least number.
-use Rattle.std.proofs.Common.{◌≡◌, ℕ, zero, suc, ◌+◌, ◌-◌, ◌%◌, ◌<◌, ◌≤◌, max, Bool, true, false, ◌&&◌, ltb, ◌⊎◌, List, length, Some, None, fold, Option, sym, refl, ap, ◌∙◌, subst, inl, inr, ⊎_elim, arith}
+use Rattle.std.proofs.Common.{◌≡◌, ℕ, zero, suc, ◌+◌, ◌-◌, ◌%◌, ◌<◌, ◌≤◌, max, Bool, true, false, ◌&&◌, nat_lt, ◌⊎◌, List, length, Some, None, fold, Option, sym, refl, ap, ◌∙◌, subst, inl, inr, ⊎_elim, arith}
 use Rattle.std.specs.List.{range_with_len}
 use Rattle.std.proofs.lemmas.Bool.{cases_Bool, cases_eq, cond-true, cond-false, and_parts, and_cases, both_ways, ltb-true, ltb-false}
 use Rattle.std.proofs.lemmas.Bool.Decides.{nat_tests}
@@ -55,10 +55,10 @@ module _ (w : World) (p : ℕ) where
   from_best : (n a b : ℕ) → waits w p b ≡ true → FromBest a n b (fold (sooner w p) (Some b) (range_with_len a n))
   from_best zero a b h = record { best = b; is = refl; waiting = h; no_later = omega arith; least = λ u l m _. absurd (omega arith); among = inl refl }
   from_best (suc n) a b h =
-      let test : Bool = waits w p a && ltb (number_at w p a) (number_at w p b) in
+      let test : Bool = waits w p a && nat_lt (number_at w p a) (number_at w p b) in
       ⊎_elim
       (λ (better : test ≡ true).
-      let parts = and_parts (waits w p a) (ltb (number_at w p a) (number_at w p b)) better in
+      let parts = and_parts (waits w p a) (nat_lt (number_at w p a) (number_at w p b)) better in
       let lower = ltb-true (number_at w p a) (number_at w p b) parts.1 in
       let rest = from_best n (a + 1) a parts.0 in
       let later = rest.no_later in
@@ -83,8 +83,8 @@ module _ (w : World) (p : ℕ) where
             (λ here.
             ⊎_elim
             (λ (no : waits w p a ≡ false). absurd (both_ways (waits w p a) no here))
-            (λ (no : ltb (number_at w p a) (number_at w p b) ≡ false). let c = ltb-false (number_at w p a) (number_at w p b) no in omega arith)
-            (and_cases (waits w p a) (ltb (number_at w p a) (number_at w p b)) worse))
+            (λ (no : nat_lt (number_at w p a) (number_at w p b) ≡ false). let c = ltb-false (number_at w p a) (number_at w p b) no in omega arith)
+            (and_cases (waits w p a) (nat_lt (number_at w p a) (number_at w p b)) worse))
             rest.least;
         among = ⊎_elim (λ (e : rest.best ≡ b). inl e) (λ (e : (a + 1 ≤ rest.best) × (rest.best < (a + 1) + n)). inr (omega arith, omega arith)) rest.among;
       })

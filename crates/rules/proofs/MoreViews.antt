@@ -1,5 +1,5 @@
 -- What the view of a world says of votes, write nodes and chains, and how it follows a change of one transaction, a node and the store.
-use Rattle.std.proofs.Common.{◌≡◌, ℕ, ◌<◌, max, Bool, true, false, cond, ◌&&◌, ◌||◌, eqb, List, map, length, get_or, set, sym, ap, ◌∙◌, arith}
+use Rattle.std.proofs.Common.{◌≡◌, ℕ, ◌<◌, max, Bool, true, false, cond, ◌&&◌, ◌||◌, List, map, length, slice_index_or, slice_set, sym, ap, ◌∙◌, arith, ◌==◌}
 use Rattle.std.proofs.lemmas.Bool.{ltb-true, both_ways}
 use Rattle.std.proofs.lemmas.Bool.Decides.{nat_tests}
 use Rattle.std.proofs.lemmas.Grind.{common_steps}
@@ -23,13 +23,13 @@ use Rattle.rules.proofs.States.{write_node_has, write_node_from}
 pub view_changed : (w : World) (nodes : List Node) (t : ℕ) (y : Transaction) (store : Meaning) → is_begun w t ≡ true →
     (f : Bool → protocol.Transaction → protocol.Transaction) (p : ℕ) (g : Bool → protocol.Participation → protocol.Participation) (n : ℕ → protocol.Node) (c : ℕ → ℕ → List Version) →
     ((x : protocol.Transaction) → f false x ≡ x) → transaction_of y ≡ f true (transaction_of (transaction w t)) →
-    ((x : protocol.Participation) → g false x ≡ x) → ((q : ℕ) → participation_of y q ≡ g (eqb p q) (participation_of (transaction w t) q)) →
-    ((q : ℕ) → node_of (get_or nodes q new_node) ≡ n q) → ((q k : ℕ) → map version_of (without_last (store q k).versions) ≡ c q k) →
+    ((x : protocol.Participation) → g false x ≡ x) → ((q : ℕ) → participation_of y q ≡ g (p == q) (participation_of (transaction w t) q)) →
+    ((q : ℕ) → node_of (slice_index_or nodes q new_node) ≡ n q) → ((q k : ℕ) → map version_of (without_last (store q k).versions) ≡ c q k) →
     ◌≡◌ {A = State} (view (changed_world w nodes t y store))
-    (record { transaction = λ u. f (eqb t u) ((view w).transaction u); node = n; participation = λ u q. g (eqb t u && eqb p q) ((view w).participation u q); chain = c })
+    (record { transaction = λ u. f (t == u) ((view w).transaction u); node = n; participation = λ u q. g (t == u && p == q) ((view w).participation u q); chain = c })
 view_changed w nodes t y store begun f p g n c f_rest f_here g_rest g_here nodes_are chains_are =
     same_state (view (changed_world w nodes t y store))
-    (record { transaction = λ u. f (eqb t u) ((view w).transaction u); node = n; participation = λ u q. g (eqb t u && eqb p q) ((view w).participation u q); chain = c })
+    (record { transaction = λ u. f (t == u) ((view w).transaction u); node = n; participation = λ u q. g (t == u && p == q) ((view w).participation u q); chain = c })
     (view_transaction w t y begun f f_rest f_here) nodes_are (view_participation w t y begun p g g_rest g_here) chains_are
 
 -- ── What the view says ──
@@ -69,7 +69,7 @@ module _ (w : World) (inv : Invariant w) where
 
 -- ── A node that changes ──
 
-pub seen_after : (w : World) (p : ℕ) (n : Node) → Invariant w → is_node w p ≡ true → length n.seen ≡ 8 → (q : ℕ) → q < length w.nodes → length (get_or (set w.nodes p n) q new_node).seen ≡ 8
+pub seen_after : (w : World) (p : ℕ) (n : Node) → Invariant w → is_node w p ≡ true → length n.seen ≡ 8 → (q : ℕ) → q < length w.nodes → length (slice_index_or (slice_set w.nodes p n) q new_node).seen ≡ 8
 seen_after w p n inv there long q l = grind (arith, nat_tests, common_steps)
 
 -- ── A node p and a transaction t ──
@@ -88,5 +88,5 @@ module _ (w : World) (inv : Invariant w) (t p : ℕ) (begun : is_begun w t ≡ t
       ∙ ap (λ (a : protocol.Transaction). max (slot (node w p).seen q) (a.outcome.commit_clock q)) (sym (view_begun w t begun))
 
   -- The row of nodes where t is engaged, after a release.
-  pub released_row : (q : ℕ) → marked (set (transaction w t).engaged p false) q ≡ cond (eqb p q) false (marked (transaction w t).engaged q)
+  pub released_row : (q : ℕ) → marked (slice_set (transaction w t).engaged p false) q ≡ cond (p == q) false (marked (transaction w t).engaged q)
   released_row q = grind (arith, nat_tests, common_steps)

@@ -1,5 +1,5 @@
 -- Prepare: a node votes on an offered update.
-use Rattle.std.proofs.Common.{◌≡◌, ℕ, ◌+◌, ◌-◌, ◌<◌, ◌≤◌, max, Bool, true, false, cond, not, ◌&&◌, ◌||◌, eqb, [], ◌∷◌, ◌++◌, map, length, set, Some, None, Ok, Err, Option, Result, sym, refl, ap, ◌∙◌, subst, inr, ⊎_elim, arith}
+use Rattle.std.proofs.Common.{◌≡◌, ℕ, ◌+◌, ◌-◌, ◌<◌, ◌≤◌, max, Bool, true, false, cond, not, ◌&&◌, ◌||◌, [], ◌∷◌, ◌++◌, map, length, slice_set, Some, None, Ok, Err, Option, Result, sym, refl, ap, ◌∙◌, subst, inr, ⊎_elim, arith, ◌==◌}
 use Rattle.std.proofs.lemmas.List.{length-set}
 use Rattle.std.proofs.lemmas.Bool.{cases_lt, cond-false, both_ways, false≢true, and_parts, ltb-true, not-true, not_from_false, ne_eqb}
 use Rattle.std.proofs.lemmas.Bool.Decides.{nat_tests}
@@ -60,7 +60,7 @@ module _ (w : World) (inv : Invariant w) (t p : ℕ) (begun : is_begun w t ≡ t
       let at : blocks w t p u ≡ false = subst (λ (i : ℕ). blocks w t p i ≡ false) (omega arith) (none_from (λ i. blocks w t p (i + 1)) (length w.transactions) free_there (u - 1) place.1) in
       let conflicts : some_below 64 (conflict_at w x (transaction w u) p) ≡ false =
       behind (marked (transaction w u).engaged p) (some_below 64 (conflict_at w x (transaction w u) p)) engaged
-      (behind (not (eqb u t)) (marked (transaction w u).engaged p && some_below 64 (conflict_at w x (transaction w u) p)) (not_from_false (eqb u t) (ne_eqb u t other)) at) in
+      (behind (not (u == t)) (marked (transaction w u).engaged p && some_below 64 (conflict_at w x (transaction w u) p)) (not_from_false (u == t) (ne_eqb u t other)) at) in
       behind (holds w p k) ((wrote (transaction w u) k && (noted x k || wrote x k)) || (noted (transaction w u) k && wrote x k)) held
       (none_from (conflict_at w x (transaction w u) p) 64 conflicts k (key_below k held))
     where
@@ -133,7 +133,7 @@ module _ (w : World) (inv : Invariant w) (t p : ℕ) (begun : is_begun w t ≡ t
       view_changed w w.nodes t (has_no p x) w.store begun protocol.is_refused p protocol.votes_no (view w).node (view w).chain
       (λ a. refl) refl (λ a. refl)
       (λ q.
-      let voted : marked (set x.voted p true) q ≡ cond (eqb p q) true (marked x.voted q) = marked_set x.voted p q true (let l = shape.voted in let b = below in omega arith) in
+      let voted : marked (slice_set x.voted p true) q ≡ cond (p == q) true (marked x.voted q) = marked_set x.voted p q true (let l = shape.voted in let b = below in omega arith) in
       λ i. record { voted = voted i; engaged = marked x.engaged q; number = slot x.numbers q; learned = marked x.learned q; applied = marked x.applied q })
       (λ q. refl) (λ q k. refl)
 
@@ -163,13 +163,13 @@ module _ (w : World) (inv : Invariant w) (t p : ℕ) (begun : is_begun w t ≡ t
   abbrev store_then : Meaning
   store_then = all_aside w.store p (written_at w x p)
 
-  voted_row : (q : ℕ) → marked (set x.voted p true) q ≡ cond (eqb p q) true (marked x.voted q)
+  voted_row : (q : ℕ) → marked (slice_set x.voted p true) q ≡ cond (p == q) true (marked x.voted q)
   voted_row q = marked_set x.voted p q true (let l = shape.voted in let b = below in omega arith)
 
-  engaged_row : (q : ℕ) → marked (set x.engaged p true) q ≡ cond (eqb p q) true (marked x.engaged q)
+  engaged_row : (q : ℕ) → marked (slice_set x.engaged p true) q ≡ cond (p == q) true (marked x.engaged q)
   engaged_row q = marked_set x.engaged p q true (let l = shape.engaged in let b = below in omega arith)
 
-  voted_then : (q : ℕ) → marked (set x.engaged p true) q ≡ true → marked (set x.voted p true) q ≡ true
+  voted_then : (q : ℕ) → marked (slice_set x.engaged p true) q ≡ true → marked (slice_set x.voted p true) q ≡ true
   voted_then q h = grind (arith, nat_tests, common_steps)
 
   votes_view : (q : ℕ) → slot (join x.votes (node w p).seen) q ≡ protocol.join (protocol.vote_clock (view w) t) (protocol.seen (view w) p) q
@@ -245,7 +245,7 @@ module _ (w : World) (inv : Invariant w) (t p : ℕ) (begun : is_begun w t ≡ t
           numbers =
               λ q h.
               slot_set x.numbers p q n (let l = shape.numbers in let b = below in omega arith)
-              ∙ cond-false (eqb p q) n (slot x.numbers q) (ne_eqb p q (λ e. both_ways (is_write_node w x q) h (subst (λ (r : ℕ). is_write_node w x r ≡ true) e writes)))
+              ∙ cond-false (p == q) n (slot x.numbers q) (ne_eqb p q (λ e. both_ways (is_write_node w x q) h (subst (λ (r : ℕ). is_write_node w x r ≡ true) e writes)))
               ∙ inv.numbers_there t q begun h;
           voted = voted_then;
         }
@@ -262,19 +262,19 @@ module _ (w : World) (inv : Invariant w) (t p : ℕ) (begun : is_begun w t ≡ t
         record {
           same_placement = refl;
           keeps =
-              keeps_change w (set w.nodes p (counted n (node w p))) t given store_then inv begun (length-set w.nodes p (counted n (node w p)))
+              keeps_change w (slice_set w.nodes p (counted n (node w p))) t given store_then inv begun (length-set w.nodes p (counted n (node w p)))
               (seen_after w p (counted n (node w p)) inv there seen_long) (later_fits w x given (fits w t inv begun) (given_later writes)) first_last_then
               (aside_balance w inv t p begun (let l = shape.engaged in let b = below in omega arith) idle);
           refines =
               inr (
                 protocol.yes_write t p n,
                 record { vote = may_vote; current = current e; write_node = write_node_view w inv t begun p writes; numbered = next_least },
-                view_changed w (set w.nodes p (counted n (node w p))) t given store_then begun
+                view_changed w (slice_set w.nodes p (counted n (node w p))) t given store_then begun
                     (protocol.joins_votes (protocol.join (protocol.vote_clock (view w) t) (protocol.seen (view w) p))) p (λ here a. protocol.takes_number n here (protocol.votes_yes here a))
-                    (λ q. protocol.counts n (eqb p q) ((view w).node q)) (view w).chain
+                    (λ q. protocol.counts n (p == q) ((view w).node q)) (view w).chain
                     (λ a. refl) agreed_view (λ a. refl)
                     (λ q.
-                    let number : slot (set x.numbers p n) q ≡ cond (eqb p q) n (slot x.numbers q) = slot_set x.numbers p q n (let l = shape.numbers in let b = below in omega arith) in
+                    let number : slot (slice_set x.numbers p n) q ≡ cond (p == q) n (slot x.numbers q) = slot_set x.numbers p q n (let l = shape.numbers in let b = below in omega arith) in
                     λ i. record { voted = voted_row q i; engaged = engaged_row q i; number = number i; learned = marked x.learned q; applied = marked x.applied q })
                     (view_node w p (counted n (node w p)) (protocol.counts n) there (λ a. refl) refl) chains_view,
                 refl,

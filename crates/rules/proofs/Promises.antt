@@ -1,5 +1,5 @@
 -- The promises follow from what holds of histories.
-use Rattle.std.proofs.Common.{◌≡◌, ℕ, zero, suc, ◌+◌, ◌-◌, ◌*◌, ◌<◌, ◌≤◌, Bool, true, false, cond, ◌&&◌, eqb, leb, List, [], ◌∷◌, ◌++◌, length, get_or, set, Some, None, Option, sym, refl, ap, ◌∙◌, subst, inl, inr, ⊎_elim, arith, lit<}
+use Rattle.std.proofs.Common.{◌≡◌, ℕ, zero, suc, ◌+◌, ◌-◌, ◌*◌, ◌<◌, ◌≤◌, Bool, true, false, cond, ◌&&◌, nat_le, List, [], ◌∷◌, ◌++◌, length, slice_index_or, slice_set, Some, None, Option, sym, refl, ap, ◌∙◌, subst, inl, inr, ⊎_elim, arith, lit<, ◌==◌}
 use mathlib.Core.List.{Perm}
 use Rattle.std.proofs.lemmas.Bool.{cases_Bool, both_ways, leb-false, lt-leb, and_from, ltb-true, lt-ltb, eqb-true}
 use Rattle.std.proofs.lemmas.Bool.Decides.{nat_tests}
@@ -60,12 +60,12 @@ is_none o e1 = grind (arith, nat_tests)
 
 -- a read that no refusal before the eleventh meets
 read_reaches : (w : World) (t k p : ℕ) → is_begun w t ≡ true → is_node w p ≡ true → is_key w k ≡ true → holds w p k ≡ true → may Read (transaction w t) ≡ true →
-    read_call w t k p ≡ read_open w t k p (transaction w t) (get_or (transaction w t).written k None)
+    read_call w t k p ≡ read_open w t k p (transaction w t) (slice_index_or (transaction w t).written k None)
 read_reaches w t k p begun there key held may_read_lem = grind (arith, nat_tests)
 
 -- a writer that is engaged there is counted
 counted_there : (w : World) (p k : ℕ) (xs : List Transaction) (i : ℕ) (d : Transaction) → i < length xs →
-    (marked (get_or xs i d).engaged p && (wrote (get_or xs i d) k && holds w p k)) ≡ true → 0 < engaged_writers w p k xs
+    (marked (slice_index_or xs i d).engaged p && (wrote (slice_index_or xs i d) k && holds w p k)) ≡ true → 0 < engaged_writers w p k xs
 counted_there w p k [] i d l e = absurd (omega arith)
 counted_there w p k (x ∷ xs) zero d l e = rw e (omega arith)
 counted_there w p k (x ∷ xs) (suc i) d l e = let r = counted_there w p k xs i d (omega arith) e in omega arith
@@ -79,7 +79,7 @@ checked : {t p value writer : ℕ} (passed : Bool) (w : World) (refusal : Refusa
 checked passed w refusal rest e1 = grind (arith, nat_tests)
 
 module _ (w : World) (t k p value writer : ℕ) (few : length w.nodes ≤ 8) (rows : is_begun w t ≡ true → length (transaction w t).read ≡ 8) where
-  there_after : is_begun w t ≡ true → p < length w.nodes → (x : Transaction) → x.read ≡ set (transaction w t).read p true → marked (transaction (with_transaction w t x) t).read p ≡ true
+  there_after : is_begun w t ≡ true → p < length w.nodes → (x : Transaction) → x.read ≡ slice_set (transaction w t).read p true → marked (transaction (with_transaction w t x) t).read p ≡ true
   there_after begun l x e = grind (arith, nat_tests, common_steps)
 
   abbrev noted_after : Transaction
@@ -94,7 +94,7 @@ module _ (w : World) (t k p value writer : ℕ) (few : length w.nodes ≤ 8) (ro
       (λ g. record { at_node = λ e. there_after begun l noted_after refl }))
 
   read_open_marks : is_begun w t ≡ true → p < length w.nodes → (own : Option ℕ) → own ≡ None → Marks t p value writer (read_open w t k p (transaction w t) own)
-  read_open_marks begun l None e = checked (leb (slot (transaction w t).clock p) (node w p).frontier) w NotYet (read_by w t k p (transaction w t) (transaction w t).kind) (λ f. read_by_marks begun l (transaction w t).kind)
+  read_open_marks begun l None e = checked (nat_le (slot (transaction w t).clock p) (node w p).frontier) w NotYet (read_by w t k p (transaction w t) (transaction w t).kind) (λ f. read_by_marks begun l (transaction w t).kind)
   read_open_marks begun l (Some x) e = absurd cc
 
   read_marks : (is_begun w t ≡ true → wrote (transaction w t) k ≡ false) → Marks t p value writer (read_call w t k p)
@@ -104,7 +104,7 @@ module _ (w : World) (t k p value writer : ℕ) (few : length w.nodes ≤ 8) (ro
       checked (is_key w k) w NoSuchKey _ (λ key.
       checked (holds w p k) w KeyNotHeld _ (λ held.
       checked (may Read (transaction w t)) w WrongState _ (λ m.
-      read_open_marks begun (ltb-true p (length w.nodes) there) (get_or (transaction w t).written k None) (is_none (get_or (transaction w t).written k None) (not_written begun)))))))
+      read_open_marks begun (ltb-true p (length w.nodes) there) (slice_index_or (transaction w t).written k None) (is_none (slice_index_or (transaction w t).written k None) (not_written begun)))))))
 
 only_there : (b c before : Bool) → before ≡ false → cond (b && c) true before ≡ true → c ≡ true
 only_there b c before e1 e2 = grind (arith, nat_tests)
@@ -280,24 +280,24 @@ module _ (placement : List ℕ) (calls : Transcript) (w : World) (tie : Tied pla
       (cases_Bool (wrote (transaction w t) k))
 
   search_read : (free : FreeRule) (t k p : ℕ) → OpenSearch w t → holds w p k ≡ true →
-      step free w (read t k p) ≡ check (leb (slot (transaction w t).clock p) (node w p).frontier) w NotYet (read_by w t k p (transaction w t) Search)
+      step free w (read t k p) ≡ check (nat_le (slot (transaction w t).clock p) (node w p).frontier) w NotYet (read_by w t k p (transaction w t) Search)
   search_read free t k p o held =
       let place = tie.invariant.holders p k held in
       read_reaches w t k p o.0 (lt-ltb p (length w.nodes) place.0) (lt-ltb k (length w.placement) place.1) held (ap is_open o.2)
-      ∙ ap (λ (x : Option ℕ). read_open w t k p (transaction w t) x) (is_none (get_or (transaction w t).written k None) (unwritten t k o.0 o.1))
-      ∙ ap (λ (x : Kind). check (leb (slot (transaction w t).clock p) (node w p).frontier) w NotYet (read_by w t k p (transaction w t) x)) o.1
+      ∙ ap (λ (x : Option ℕ). read_open w t k p (transaction w t) x) (is_none (slice_index_or (transaction w t).written k None) (unwritten t k o.0 o.1))
+      ∙ ap (λ (x : Kind). check (nat_le (slot (transaction w t).clock p) (node w p).frontier) w NotYet (read_by w t k p (transaction w t) x)) o.1
 
   refused_if_behind : (free : FreeRule) (t k p : ℕ) → OpenSearch w t → holds w p k ≡ true → YetToApply calls w t p → (step free w (read t k p)).0 ≡ Refused NotYet
   refused_if_behind free t k p o held y =
       let lt : (node w p).frontier < protocol.clock (view w) t p = (stands.behind_exactly t p).1 (behind t p o.0 y) in
       let c : protocol.clock (view w) t p ≡ slot (transaction w t).clock p = ap (λ (z : protocol.Transaction). z.reading.clock p) (shown w t o.0) in
       ap (λ (x : Outcome). x.0) (search_read free t k p o held)
-      ∙ fails (leb (slot (transaction w t).clock p) (node w p).frontier) w NotYet (read_by w t k p (transaction w t) Search) (lt-leb (slot (transaction w t).clock p) (node w p).frontier (omega arith))
+      ∙ fails (nat_le (slot (transaction w t).clock p) (node w p).frontier) w NotYet (read_by w t k p (transaction w t) Search) (lt-leb (slot (transaction w t).clock p) (node w p).frontier (omega arith))
 
   refused_only_if_behind : (free : FreeRule) (t k p : ℕ) → OpenSearch w t → holds w p k ≡ true → (r : Refusal) → (step free w (read t k p)).0 ≡ Refused r → YetToApply calls w t p
   refused_only_if_behind free t k p o held r e =
-      let f : leb (slot (transaction w t).clock p) (node w p).frontier ≡ false =
-      refused_there (leb (slot (transaction w t).clock p) (node w p).frontier) w (with_transaction w t (has_read p (clock_after w (transaction w t) p) (transaction w t))) NotYet r (visible w (transaction w t) k p).value (visible w (transaction w t) k p).writer
+      let f : nat_le (slot (transaction w t).clock p) (node w p).frontier ≡ false =
+      refused_there (nat_le (slot (transaction w t).clock p) (node w p).frontier) w (with_transaction w t (has_read p (clock_after w (transaction w t) p) (transaction w t))) NotYet r (visible w (transaction w t) k p).value (visible w (transaction w t) k p).writer
       (ap (λ (x : Outcome). x.0) (sym (search_read free t k p o held)) ∙ e) in
       let lt : (node w p).frontier < slot (transaction w t).clock p = leb-false (slot (transaction w t).clock p) (node w p).frontier f in
       let c : protocol.clock (view w) t p ≡ slot (transaction w t).clock p = ap (λ (z : protocol.Transaction). z.reading.clock p) (shown w t o.0) in
@@ -358,14 +358,14 @@ module _ (placement : List ℕ) (calls : Transcript) (w : World) (tie : Tied pla
         let va : version value writer ≡ a = cc in
         let o : protocol.status (view w) t ≡ protocol.Open = ap (λ (x : ℕ). protocol.status (view w) x) tu ∙ ok.0.open_now in
         let r = there w' (protocol.read_search u j q a c) v o m in
-        settle u j q a c tu kj (sym (eqb-true q p (only_there (eqb u t) (eqb q p) (protocol.read_at (view w) t p) (unread p) r))) va ok.0
+        settle u j q a c tu kj (sym (eqb-true q p (only_there (u == t) (q == p) (protocol.read_at (view w) t p) (unread p) r))) va ok.0
     at_event w' (protocol.read_update u j q a c) ok v g m =
         let tu : t ≡ u = cc in
         let kj : k ≡ j = cc in
         let va : version value writer ≡ a = cc in
         let o : protocol.status (view w) t ≡ protocol.Open = ap (λ (x : ℕ). protocol.status (view w) x) tu ∙ ok.0.open_now in
         let r = there w' (protocol.read_update u j q a c) v o m in
-        settle u j q a c tu kj (sym (eqb-true q p (only_there (eqb u t) (eqb q p) (protocol.read_at (view w) t p) (unread p) r))) va ok.0
+        settle u j q a c tu kj (sym (eqb-true q p (only_there (u == t) (q == p) (protocol.read_at (view w) t p) (unread p) r))) va ok.0
     at_event w' e ok v g m = no_read _ t k (version value writer) refl g
 
     at_outcome : (o : Outcome) → ComesTo placement calls w (read t k p) tie o placement → o.0 ≡ Found value writer → marked (transaction o.1 t).read p ≡ true →

@@ -1,5 +1,5 @@
 -- Two facts of every history: who wrote is an update, and who reads its own values only has read at no node.
-use Rattle.std.proofs.Common.{◌≡◌, ℕ, Bool, true, false, cond, ◌&&◌, eqb, ◌⊎◌, List, ◌∷◌, sym, ap, ◌∙◌, inl, inr, arith}
+use Rattle.std.proofs.Common.{◌≡◌, ℕ, Bool, true, false, cond, ◌&&◌, ◌⊎◌, List, ◌∷◌, sym, ap, ◌∙◌, inl, inr, arith, ◌==◌}
 use Rattle.std.proofs.lemmas.Bool.{both_ways, eq-eqb, false≢true}
 use Rattle.std.proofs.lemmas.Bool.Decides.{nat_tests}
 use Rattle.history.specs.Table.{Version, Operation, get, put, puts}
@@ -21,19 +21,19 @@ own_last here k l e1 e2 = grind (arith, nat_tests)
 module _ (holds : Placement) (modulus : ℕ) where
   -- a read at a node of a key that is not written
   none_read : {h : List Event} {s : State} → Reachable holds modulus h s → (u t j p k q : ℕ) (a b : Version) → wrote s u j ≡ false →
-      (reads_own_only (script h t) ≡ true → WasRead h t k q a → ⊥) → reads_own_only (cond (eqb u t) (get j ∷ script h t) (script h t)) ≡ true →
+      (reads_own_only (script h t) ≡ true → WasRead h t k q a → ⊥) → reads_own_only (cond (u == t) (get j ∷ script h t) (script h t)) ≡ true →
       ((t ≡ u) × (k ≡ j) × (q ≡ p) × (a ≡ b)) ⊎ WasRead h t k q a → ⊥
   none_read {h} {s} r u t j p k q a b unwritten earlier own (inl here) =
       both_ways (wrote s u j) unwritten
-      (sym ((invariants holds modulus r).scripts.script_wrote u j) ∙ ap (λ (x : ℕ). puts (script h x) j) (sym here.0) ∙ own_last (eqb u t) j (script h t) (eq-eqb u t (sym here.0)) own)
-  none_read {h} {s} r u t j p k q a b unwritten earlier own (inr before) = earlier (own_get (eqb u t) j (script h t) own) before
+      (sym ((invariants holds modulus r).scripts.script_wrote u j) ∙ ap (λ (x : ℕ). puts (script h x) j) (sym here.0) ∙ own_last (u == t) j (script h t) (eq-eqb u t (sym here.0)) own)
+  none_read {h} {s} r u t j p k q a b unwritten earlier own (inr before) = earlier (own_get (u == t) j (script h t) own) before
 
   own_after : {h : List Event} {s : State} → Reachable holds modulus h s → (e : Event) → Accepted holds modulus s e → (t k q : ℕ) (a : Version) →
       (reads_own_only (script h t) ≡ true → WasRead h t k q a → ⊥) → reads_own_only (script (e ∷ h) t) ≡ true → WasRead (e ∷ h) t k q a → ⊥
-  own_after {h} r (read_own u j b) ok t k q a earlier own read = earlier (own_get (eqb u t) j (script h t) own) read
+  own_after {h} r (read_own u j b) ok t k q a earlier own read = earlier (own_get (u == t) j (script h t) own) read
   own_after r (read_search u j p b c) ok t k q a earlier own read = none_read r u t j p k q a b ok.0.unwritten earlier own read
   own_after r (read_update u j p b c) ok t k q a earlier own read = none_read r u t j p k q a b ok.0.unwritten earlier own read
-  own_after {h} r (write u j v) ok t k q a earlier own read = earlier (own_put (eqb u t) j v (script h t) own) read
+  own_after {h} r (write u j v) ok t k q a earlier own read = earlier (own_put (u == t) j v (script h t) own) read
   own_after r e ok t k q a earlier own read = earlier own read
 
   -- who reads its own values only has read at no node
@@ -42,10 +42,10 @@ module _ (holds : Placement) (modulus : ℕ) where
   own_only (then e r ok) t own k q a read = own_after r e ok t k q a (λ o w. own_only r t o k q a w) own read
 
   -- a begin makes nobody a search that has written, and only updates write
-  begin_writers : (t u k : ℕ) (x y : Kind) (b : Bool) → (u ≡ t → b ≡ false) → (b ≡ true → y ≡ Update) → b ≡ true → cond (eqb t u) x y ≡ Update
+  begin_writers : (t u k : ℕ) (x y : Kind) (b : Bool) → (u ≡ t → b ≡ false) → (b ≡ true → y ≡ Update) → b ≡ true → cond (t == u) x y ≡ Update
   begin_writers t u k x y b f g e = grind (arith, nat_tests)
 
-  write_writers : (t u j k : ℕ) (y : ℕ → Kind) (b : Bool) → y t ≡ Update → (b ≡ true → y u ≡ Update) → cond (eqb t u && eqb j k) true b ≡ true → y u ≡ Update
+  write_writers : (t u j k : ℕ) (y : ℕ → Kind) (b : Bool) → y t ≡ Update → (b ≡ true → y u ≡ Update) → cond (t == u && j == k) true b ≡ true → y u ≡ Update
   write_writers t u j k y b f g e = grind (arith, nat_tests)
 
   writers_after : {h : List Event} {s : State} → Reachable holds modulus h s → (e : Event) → Accepted holds modulus s e →

@@ -1,5 +1,5 @@
 -- Reading: the answer is the newest version that passes.
-use Rattle.std.proofs.Common.{◌≡◌, ℕ, ◌<◌, ◌≤◌, Bool, true, false, cond, ◌||◌, eqb, leb, List, [], ◌∷◌, ◌++◌, map, length, get_or, set, Some, None, Decides, Option, sym, refl, ap, ◌∙◌, subst, inl, inr, ⊎_elim, arith}
+use Rattle.std.proofs.Common.{◌≡◌, ℕ, ◌<◌, ◌≤◌, Bool, true, false, cond, ◌||◌, nat_le, List, [], ◌∷◌, ◌++◌, map, length, slice_index_or, slice_set, Some, None, Decides, Option, sym, refl, ap, ◌∙◌, subst, inl, inr, ⊎_elim, arith, ◌==◌}
 use Rattle.std.proofs.lemmas.List.{length-set}
 use Rattle.std.proofs.lemmas.Bool.{ltb-true, leb-true, cases_Bool}
 use Rattle.std.proofs.lemmas.Bool.Decides.{not_from_Decides, nat_tests}
@@ -60,7 +60,7 @@ newest_writer_seen test vs e1 e2 = grind (arith, nat_tests)
 
 -- ── The transaction after ──
 
-read_row : (row : List Bool) (p q : ℕ) → p < length row → marked (set row p true) q ≡ (eqb p q || marked row q)
+read_row : (row : List Bool) (p q : ℕ) → p < length row → marked (slice_set row p true) q ≡ (p == q || marked row q)
 read_row row p q l = marked_set row p q true l ∙ grind arith
 
 has_read_seen : (x : Transaction) (p : ℕ) (clock : List ℕ) → p < length x.read →
@@ -68,13 +68,13 @@ has_read_seen : (x : Transaction) (p : ℕ) (clock : List ℕ) → p < length x.
 has_read_seen x p clock l = grind (arith, nat_tests, common_steps)
 
 module _ (x : Transaction) (k writer : ℕ) (room : k < length x.noted) where
-  noted_after : (j : ℕ) → noted (has_noted k writer x) j ≡ cond (eqb k j) true (noted x j)
+  noted_after : (j : ℕ) → noted (has_noted k writer x) j ≡ cond (k == j) true (noted x j)
   noted_after j = grind (arith, nat_tests, common_steps)
 
-  noted_writer_after : (j : ℕ) → value_or (get_or (has_noted k writer x).noted j None) 0 ≡ cond (eqb k j) (cond (noted x k) (value_or (get_or x.noted k None) 0) writer) (value_or (get_or x.noted j None) 0)
+  noted_writer_after : (j : ℕ) → value_or (slice_index_or (has_noted k writer x).noted j None) 0 ≡ cond (k == j) (cond (noted x k) (value_or (slice_index_or x.noted k None) 0) writer) (value_or (slice_index_or x.noted j None) 0)
   noted_writer_after j = grind (arith, nat_tests, common_steps)
 
-  has_noted_seen : transaction_of (has_noted k writer x) ≡ protocol.notes k (cond (noted x k) (value_or (get_or x.noted k None) 0) writer) true (transaction_of x)
+  has_noted_seen : transaction_of (has_noted k writer x) ≡ protocol.notes k (cond (noted x k) (value_or (slice_index_or x.noted k None) 0) writer) true (transaction_of x)
   has_noted_seen = λ i. record {
     kind = kind_of x.kind;
     status = status_of x.state;
@@ -132,11 +132,11 @@ module _ (w : World) (t k p : ℕ) (now : Invariant w) (begun : is_begun w t ≡
   note_room = omega (arith, (now.shaped t begun).noted, key_below, now.few_keys)
 
   -- A version passes after the read, in both languages.
-  version_decides : (v : Stored) → Decides (version_passes w reader p v) (protocol.Passes (protocol.commit_clock (view w) v.writer) (λ q. eqb p q || protocol.read_at (view w) t q) clock_then)
+  version_decides : (v : Stored) → Decides (version_passes w reader p v) (protocol.Passes (protocol.commit_clock (view w) v.writer) (λ q. (p == q) || protocol.read_at (view w) t q) clock_then)
   version_decides v =
-      let row : (q : ℕ) → marked (set reader.read p true) q ≡ (eqb p q || protocol.read_at (view w) t q) =
-      λ q. read_row reader.read p q read_room ∙ ap (λ (b : Bool). eqb p q || b) (sym (read_seen w t p now begun q)) in
-      let both = pass_decides (set reader.read p true) (commit_clock w v.writer) (clock_after w reader p) (length-set reader.read p true ∙ (now.shaped t begun).read) in (
+      let row : (q : ℕ) → marked (slice_set reader.read p true) q ≡ (p == q || protocol.read_at (view w) t q) =
+      λ q. read_row reader.read p q read_room ∙ ap (λ (b : Bool). (p == q) || b) (sym (read_seen w t p now begun q)) in
+      let both = pass_decides (slice_set reader.read p true) (commit_clock w v.writer) (clock_after w reader p) (length-set reader.read p true ∙ (now.shaped t begun).read) in (
         λ e q m. subst (λ (n : ℕ). n ≤ slot (clock_after w reader p) q) (sym (commit_seen w v.writer q)) (both.0 e q (row q ∙ m)),
         λ h. both.1 (λ q m. subst (λ (n : ℕ). n ≤ slot (clock_after w reader p) q) (commit_seen w v.writer q) (h q (sym (row q) ∙ m))),
       )
@@ -148,7 +148,7 @@ module _ (w : World) (t k p : ℕ) (now : Invariant w) (begun : is_begun w t ≡
     held = held;
     settled = grind (arith, nat_tests, common_steps);
     joined = after_joined w t p now begun;
-    answer = newest_seen (view w) (λ q. eqb p q || protocol.read_at (view w) t q) clock_then (version_passes w reader p) version_decides (w.store p k).versions (now.first_last p k);
+    answer = newest_seen (view w) (λ q. (p == q) || protocol.read_at (view w) t q) clock_then (version_passes w reader p) version_decides (w.store p k).versions (now.first_last p k);
   }
 
   fits_then : Fits w (has_read p (clock_after w reader p) reader)
@@ -170,7 +170,7 @@ module _ (w : World) (t k p : ℕ) (now : Invariant w) (begun : is_begun w t ≡
   updated = has_noted k (visible w reader k p).writer (has_read p (clock_after w reader p) reader)
 
   -- The writer that it has noted then.
-  note_seen : protocol.first_noted (view w) t k (visible w reader k p).writer ≡ cond (noted reader k) (value_or (get_or reader.noted k None) 0) (visible w reader k p).writer
+  note_seen : protocol.first_noted (view w) t k (visible w reader k p).writer ≡ cond (noted reader k) (value_or (slice_index_or reader.noted k None) 0) (visible w reader k p).writer
   note_seen = grind (arith, nat_tests)
 
   updated_seen : transaction_of updated
@@ -202,7 +202,7 @@ module _ (w : World) (t k p : ℕ) (now : Invariant w) (begun : is_begun w t ≡
       checked (newest_passes (version_passes w reader p) (w.store p k).versions) w (read t k p) Overtaken _ now
       (λ newest_one. checked (can_note reader k) w (read t k p) TooManyKeysRead _ now (λ room. update_read unwritten settled e newest_one))
 
-  read_now : (value : Option ℕ) → get_or reader.written k None ≡ value → GoodOutcome w (read t k p) (read_open w t k p reader value)
+  read_now : (value : Option ℕ) → slice_index_or reader.written k None ≡ value → GoodOutcome w (read t k p) (read_open w t k p reader value)
   read_now (Some value) e = record {
     same_placement = refl;
     keeps = now;
@@ -218,7 +218,7 @@ module _ (w : World) (t k p : ℕ) (now : Invariant w) (begun : is_begun w t ≡
     );
   }
   read_now None e =
-      checked (leb (slot reader.clock p) (node w p).frontier) w (read t k p) NotYet _ now
+      checked (nat_le (slot reader.clock p) (node w p).frontier) w (read t k p) NotYet _ now
       (λ settled. read_kind (ap (λ (o : Option ℕ). is_there o) e) (leb-true (slot reader.clock p) (node w p).frontier settled) reader.kind refl)
 
 pub read_good : (free : FreeRule) (w : World) (t k p : ℕ) → Invariant w → GoodStep free w (read t k p)
@@ -229,4 +229,4 @@ read_good free w t k p now =
     (λ there. checked (is_key w k) w (read t k p) NoSuchKey _ now
     (λ key. checked (holds w p k) w (read t k p) KeyNotHeld _ now
     (λ held. checked (may Read (transaction w t)) w (read t k p) WrongState _ now
-    (λ may_read_lem. read_now w t k p now begun there key held may_read_lem (get_or (transaction w t).written k None) refl))))))
+    (λ may_read_lem. read_now w t k p now begun there key held may_read_lem (slice_index_or (transaction w t).written k None) refl))))))

@@ -1,5 +1,5 @@
 -- What begins as a search stays one, and is open until a finish of it is accepted.
-use Rattle.std.proofs.Common.{◌≡◌, ℕ, zero, ◌+◌, ◌-◌, Bool, true, false, not, ◌&&◌, ◌||◌, ltb, leb, ◌⊎◌, List, [], ◌∷◌, length, get_or, set, Some, None, Ok, Err, Option, Result, sym, refl, ap, ◌∙◌, subst, inl, inr, arith}
+use Rattle.std.proofs.Common.{◌≡◌, ℕ, zero, ◌+◌, ◌-◌, Bool, true, false, not, ◌&&◌, ◌||◌, nat_lt, nat_le, ◌⊎◌, List, [], ◌∷◌, length, slice_index_or, slice_set, Some, None, Ok, Err, Option, Result, sym, refl, ap, ◌∙◌, subst, inl, inr, arith}
 use Rattle.std.proofs.lemmas.Bool.{both_ways}
 use Rattle.std.proofs.lemmas.Bool.Decides.{nat_tests}
 use Rattle.std.proofs.lemmas.Grind.{common_steps}
@@ -46,7 +46,7 @@ module _ (w : World) (t : ℕ) (begun : is_begun w t ≡ true) (search : (transa
   checked passed refusal rest e1 = grind (arith, nat_tests)
 
   -- the transaction of a call is changed
-  module _ (request : Request) (answer : Answer) (after : World) (u : ℕ) (y : Transaction) (is : after.transactions ≡ set w.transactions (u - 1) y) where
+  module _ (request : Request) (answer : Answer) (after : World) (u : ℕ) (y : Transaction) (is : after.transactions ≡ slice_set w.transactions (u - 1) y) where
     changed : (u - 1 ≡ t - 1 → y.kind ≡ Search) → (u - 1 ≡ t - 1 → (transaction w t).state ≡ Open → (y.state ≡ Open) ⊎ ((request ≡ finish t) × (answer ≡ Done))) → Still request (answer, after)
     changed kind_kept state_kept = grind (arith, nat_tests, common_steps)
 
@@ -59,7 +59,7 @@ module _ (w : World) (t : ℕ) (begun : is_begun w t ≡ true) (search : (transa
 
   -- a search changes by no offer, cancel or decision of an update
   at_same : (u : ℕ) → u - 1 ≡ t - 1 → transaction w u ≡ transaction w t
-  at_same u e = ap (λ (i : ℕ). get_or w.transactions i (new_transaction Search)) e
+  at_same u e = ap (λ (i : ℕ). slice_index_or w.transactions i (new_transaction Search)) e
 
   read_by_still : (u k p : ℕ) (kind : Kind) → Still (read u k p) (read_by w u k p (transaction w u) kind)
   read_by_still u k p Search = kept (read u k p) (Found _ _) _ u _ refl refl refl
@@ -70,7 +70,7 @@ module _ (w : World) (t : ℕ) (begun : is_begun w t ≡ true) (search : (transa
 
   read_open_still : (u k p : ℕ) (own : Option ℕ) → Still (read u k p) (read_open w u k p (transaction w u) own)
   read_open_still u k p (Some value) = record { begun_after = begun; search_after = search; open_after = λ e. inl e }
-  read_open_still u k p None = checked (leb (slot (transaction w u).clock p) (node w p).frontier) NotYet _ (λ a. read_by_still u k p (transaction w u).kind)
+  read_open_still u k p None = checked (nat_le (slot (transaction w u).clock p) (node w p).frontier) NotYet _ (λ a. read_by_still u k p (transaction w u).kind)
 
   yes_still : (u p : ℕ) (store : Meaning) (writes : Bool) → Still (prepare u p) (yes w u p (transaction w u) store writes)
   yes_still u p store true = kept (prepare u p) (Yes _) _ u _ refl refl refl
@@ -106,7 +106,7 @@ module _ (w : World) (t : ℕ) (begun : is_begun w t ≡ true) (search : (transa
   apply_still p (Some u) = checked (marked (transaction w u).learned p) NotLearned _ (λ a. kept (apply p) (Applied u) _ u _ refl refl refl)
 
   -- only updates are offered and cancelled
-  gone : (request : Request) (answer : Answer) (after : World) (u : ℕ) (y : Transaction) (b : Bool) → after.transactions ≡ set w.transactions (u - 1) y →
+  gone : (request : Request) (answer : Answer) (after : World) (u : ℕ) (y : Transaction) (b : Bool) → after.transactions ≡ slice_set w.transactions (u - 1) y →
       (is_update (transaction w u).kind && b) ≡ true → Still request (answer, after)
   gone request answer after u y b is e = grind (arith, nat_tests, common_steps)
 
@@ -117,9 +117,9 @@ module _ (w : World) (t : ℕ) (begun : is_begun w t ≡ true) (search : (transa
   still free (make nodes keys placement) = refused (make nodes keys placement) MakeOutOfOrder
   still free (begin mode) = begin_still mode
   still free (read u k p) =
-      checked (is_begun w u) NoSuchTransaction _ (λ a. checked (is_node w p) NoSuchNode _ (λ b. checked (is_key w k) NoSuchKey _ (λ c. checked (holds w p k) KeyNotHeld _ (λ d. checked (may Read (transaction w u)) WrongState _ (λ e. read_open_still u k p (get_or (transaction w u).written k None))))))
+      checked (is_begun w u) NoSuchTransaction _ (λ a. checked (is_node w p) NoSuchNode _ (λ b. checked (is_key w k) NoSuchKey _ (λ c. checked (holds w p k) KeyNotHeld _ (λ d. checked (may Read (transaction w u)) WrongState _ (λ e. read_open_still u k p (slice_index_or (transaction w u).written k None))))))
   still free (write u k value) =
-      checked (is_begun w u) NoSuchTransaction _ (λ a. checked (is_key w k) NoSuchKey _ (λ b. checked (may Write (transaction w u)) WrongState _ (λ c. checked (wrote (transaction w u) k || ltb (how_many (transaction w u).written) 8) TooManyKeysWritten _ (λ d. kept (write u k value) Done _ u _ refl refl refl))))
+      checked (is_begun w u) NoSuchTransaction _ (λ a. checked (is_key w k) NoSuchKey _ (λ b. checked (may Write (transaction w u)) WrongState _ (λ c. checked (wrote (transaction w u) k || nat_lt (how_many (transaction w u).written) 8) TooManyKeysWritten _ (λ d. kept (write u k value) Done _ u _ refl refl refl))))
   still free (offer u) = checked (is_begun w u) NoSuchTransaction _ (λ a. checked (may Offer (transaction w u)) WrongState _ (λ b. gone (offer u) (Polled _) _ u _ _ refl b))
   still free (prepare u p) =
       checked (is_begun w u) NoSuchTransaction _ (λ a. checked (is_node w p) NoSuchNode _ (λ b. checked (may Prepare (transaction w u)) WrongState _ (λ c. checked (bit (transaction w u).polled p) NotPolled _ (λ d. checked (not (marked (transaction w u).voted p)) AlreadyDone _ (λ e. checked (not (busy w u p)) Busy _ (λ f. vote_still free u p (overtaken_key w (transaction w u) p)))))))
@@ -136,7 +136,7 @@ record Starts (t : ℕ) (o : Outcome) : Type 0 where
   starts : o.0 ≡ Begun t → (is_begun o.1 t ≡ true) × ((transaction o.1 t).kind ≡ Search) × ((transaction o.1 t).state ≡ Open)
 
 begin_starts : (w : World) (t : ℕ) → Starts t (begin_mode w zero)
-begin_starts w t = go (ltb (length w.transactions) 255)
+begin_starts w t = go (nat_lt (length w.transactions) 255)
   where
     go : (b : Bool) → Starts t (check b w NumbersUsedUp (Begun (length w.transactions + 1), begun_world w Search))
     go b = grind (arith, nat_tests, common_steps)

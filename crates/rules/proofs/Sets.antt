@@ -1,5 +1,5 @@
 -- The keys that a transaction writes at a node.
-use Rattle.std.proofs.Common.{◌≡◌, ℕ, zero, suc, ◌+◌, ◌<◌, Bool, true, false, cond, ◌&&◌, ltb, leb, ◌∷◌, filter, ap, ◌∙◌, subst, ⊎_elim, arith}
+use Rattle.std.proofs.Common.{◌≡◌, ℕ, zero, suc, ◌+◌, ◌<◌, Bool, true, false, cond, ◌&&◌, nat_lt, nat_le, ◌∷◌, filter, ap, ◌∙◌, subst, ⊎_elim, arith}
 use Rattle.std.specs.List.{range_with_len, AllByRecursion}
 use Rattle.std.proofs.ByRecursion.{kept_by_passes}
 use Rattle.std.proofs.lemmas.Bool.{cases_Bool, cases_eq, cond-true, cond-false, false_from_ne_true}
@@ -15,7 +15,7 @@ module _ (test : ℕ → Bool) where
   none_from n h k l = false_from_ne_true (test k) (none_has n test k h l)
 
   -- Of a stretch of numbers, those that pass are asked for once each.
-  pub asked_kept : (a n k : ℕ) → asked (filter test (range_with_len a n)) k ≡ cond (test k && (leb a k && ltb k (a + n))) 1 0
+  pub asked_kept : (a n k : ℕ) → asked (filter test (range_with_len a n)) k ≡ cond (test k && (nat_le a k && nat_lt k (a + n))) 1 0
   unfolding asked
   asked_kept a zero k = grind (arith, nat_tests)
   asked_kept a (suc n) k =
@@ -35,12 +35,12 @@ module _ (test : ℕ → Bool) where
       (cases_eq a k))
       (cases_Bool (test a))
 
-within_all : (b : Bool) (k : ℕ) → ◌≡◌ {A = ℕ} (cond (b && (leb 0 k && ltb k (0 + 64))) 1 0) (cond (b && ltb k 64) 1 0)
+within_all : (b : Bool) (k : ℕ) → ◌≡◌ {A = ℕ} (cond (b && (nat_le 0 k && nat_lt k (0 + 64))) 1 0) (cond (b && nat_lt k 64) 1 0)
 within_all b k = grind (arith, nat_tests)
 
 module _ (w : World) (x : Transaction) (p : ℕ) where
   -- Each key that is written there is asked for once.
-  pub asked_written : (k : ℕ) → asked (written_at w x p) k ≡ cond ((wrote x k && holds w p k) && ltb k 64) 1 0
+  pub asked_written : (k : ℕ) → asked (written_at w x p) k ≡ cond ((wrote x k && holds w p k) && nat_lt k 64) 1 0
   unfolding written_at
   asked_written k = asked_kept (λ j. wrote x j && holds w p j) 0 64 k ∙ within_all (wrote x k && holds w p k) k
 

@@ -1,5 +1,5 @@
 -- A world that has just been made.
-use Rattle.std.proofs.Common.{◌≡◌, ℕ, zero, suc, ◌+◌, ◌/◌, ◌%◌, ◌^◌, ◌<◌, ◌≤◌, true, false, ◌&&◌, ltb, List, [], ◌∷◌, length, get_or, refl, ap, ◌∙◌, subst, ⊎_elim, arith}
+use Rattle.std.proofs.Common.{◌≡◌, ℕ, zero, suc, ◌+◌, ◌/◌, ◌%◌, ◌^◌, ◌<◌, ◌≤◌, true, false, ◌&&◌, nat_lt, List, [], ◌∷◌, length, slice_index_or, refl, ap, ◌∙◌, subst, ⊎_elim, arith}
 use Rattle.std.proofs.lemmas.List.{length-replicate, get_or_past}
 use Rattle.std.proofs.lemmas.Nat.{pow_pos, pow_below, shr_below, le-div, leading_top}
 use Rattle.std.proofs.lemmas.Bool.{and_parts, ltb-true, cases_lt, cases_eq, both_ways, eq-eqb}
@@ -17,12 +17,12 @@ use Rattle.rules.proofs.States.{bit_zero}
 
 -- ── Bytes of the placement ──
 
-placed_at : (n : ℕ) (placement : List ℕ) (k : ℕ) → all_placed n placement ≡ true → k < length placement → (0 < get_or placement k 0) × (get_or placement k 0 < 2 ^ n)
+placed_at : (n : ℕ) (placement : List ℕ) (k : ℕ) → all_placed n placement ≡ true → k < length placement → (0 < slice_index_or placement k 0) × (slice_index_or placement k 0 < 2 ^ n)
 placed_at n [] k e l = absurd (omega arith)
 placed_at n (byte ∷ bytes) zero e l =
-    let parts = and_parts (ltb 0 byte) (ltb byte (2 ^ n)) (and_parts (ltb 0 byte && ltb byte (2 ^ n)) (all_placed n bytes) e).0 in
+    let parts = and_parts (nat_lt 0 byte) (nat_lt byte (2 ^ n)) (and_parts (nat_lt 0 byte && nat_lt byte (2 ^ n)) (all_placed n bytes) e).0 in
     (ltb-true 0 byte parts.0, ltb-true byte (2 ^ n) parts.1)
-placed_at n (byte ∷ bytes) (suc k) e l = placed_at n bytes k (and_parts (ltb 0 byte && ltb byte (2 ^ n)) (all_placed n bytes) e).1 (omega arith)
+placed_at n (byte ∷ bytes) (suc k) e l = placed_at n bytes k (and_parts (nat_lt 0 byte && nat_lt byte (2 ^ n)) (all_placed n bytes) e).1 (omega arith)
 
 -- A byte that is not 0 has a bit that is set.
 some_bit : (n byte : ℕ) → 0 < byte → byte < 2 ^ n → (p : ℕ) × (bit byte p ≡ true)
@@ -52,12 +52,12 @@ module _ (n : ℕ) (placement : List ℕ) (made : can_make n (length placement) 
   all_there : all_placed n placement ≡ true
   all_there = grind (arith, nat_tests)
 
-  held : (k : ℕ) → k < length placement → (p : ℕ) × (bit (get_or placement k 0) p ≡ true)
-  held k l = let here = placed_at n placement k all_there l in some_bit n (get_or placement k 0) here.0 here.1
+  held : (k : ℕ) → k < length placement → (p : ℕ) × (bit (slice_index_or placement k 0) p ≡ true)
+  held k l = let here = placed_at n placement k all_there l in some_bit n (slice_index_or placement k 0) here.0 here.1
 
-  holder : (p k : ℕ) → bit (get_or placement k 0) p ≡ true → (p < n) × (k < length placement)
+  holder : (p k : ℕ) → bit (slice_index_or placement k 0) p ≡ true → (p < n) × (k < length placement)
   holder p k e =
-      ⊎_elim (λ (l : k < length placement). (bit_within n (get_or placement k 0) p (placed_at n placement k all_there l).1 e, l))
+      ⊎_elim (λ (l : k < length placement). (bit_within n (slice_index_or placement k 0) p (placed_at n placement k all_there l).1 e, l))
       (λ (l : length placement ≤ k). absurd (both_ways (bit 0 p) (bit_zero p) (rw (get_or_past placement k 0 l) at e)))
       (cases_lt k (length placement))
 

@@ -1,5 +1,5 @@
 -- Writing, offering, cancelling and finishing.
-use Rattle.std.proofs.Common.{◌≡◌, ℕ, zero, suc, ◌+◌, ◌/◌, ◌%◌, ◌^◌, ◌<◌, ◌≤◌, max, Bool, true, false, cond, ◌&&◌, ◌||◌, eqb, ltb, ◌⊎◌, List, length, get_or, set, Some, None, fold, Option, sym, refl, ap, ◌∙◌, inl, inr, ⊎_elim, arith}
+use Rattle.std.proofs.Common.{◌≡◌, ℕ, zero, suc, ◌+◌, ◌/◌, ◌%◌, ◌^◌, ◌<◌, ◌≤◌, max, Bool, true, false, cond, ◌&&◌, ◌||◌, nat_lt, ◌⊎◌, List, length, slice_index_or, slice_set, Some, None, fold, Option, sym, refl, ap, ◌∙◌, inl, inr, ⊎_elim, arith, ◌==◌}
 use lib.Bits.{bit_or, or_step}
 use Rattle.std.specs.List.{range_with_len}
 use Rattle.std.proofs.lemmas.Nat.{or_shr}
@@ -95,11 +95,11 @@ finish_good free w t now =
 -- ── A write ──
 
 -- A row of options with one place filled.
-pub there_set : (row : List (Option ℕ)) (k j value : ℕ) → k < length row → is_there (get_or (set row k (Some value)) j None) ≡ cond (eqb k j) true (is_there (get_or row j None))
+pub there_set : (row : List (Option ℕ)) (k j value : ℕ) → k < length row → is_there (slice_index_or (slice_set row k (Some value)) j None) ≡ cond (k == j) true (is_there (slice_index_or row j None))
 there_set row k j value l = grind (arith, nat_tests, common_steps)
 
 module _ (w : World) (x : Transaction) (k value : ℕ) (key : k < length w.placement) (room : k < length x.written) (open_now : x.state ≡ Open) (fit : Fits w x) where
-  wrote_after : (j : ℕ) → wrote (has_written k value x) j ≡ cond (eqb k j) true (wrote x j)
+  wrote_after : (j : ℕ) → wrote (has_written k value x) j ≡ cond (k == j) true (wrote x j)
   wrote_after j = there_set x.written k j value room
 
   wrote_still : (j : ℕ) → wrote x j ≡ true → wrote (has_written k value x) j ≡ true
@@ -151,7 +151,7 @@ write_good free w t k value now =
     (checked (is_begun w t) w (write t k value) NoSuchTransaction _ now
     (λ begun. checked (is_key w k) w (write t k value) NoSuchKey _ now
     (λ key. checked (may Write (transaction w t)) w (write t k value) WrongState _ now
-    (λ may_write_lem. checked (wrote (transaction w t) k || ltb (how_many (transaction w t).written) 8) w (write t k value) TooManyKeysWritten _ now
+    (λ may_write_lem. checked (wrote (transaction w t) k || nat_lt (how_many (transaction w t).written) 8) w (write t k value) TooManyKeysWritten _ now
     (λ few. written w t k value now begun key may_write_lem)))))
 
 -- ── An offer ──
@@ -165,31 +165,31 @@ bit-bit_or a b h =
 
 -- The byte of the holders of the keys that pass a test.
 abbrev holders_byte : (ℕ → Bool) → List ℕ → ℕ → ℕ → ℕ → ℕ
-holders_byte test placement byte k n = fold (λ (byte k : ℕ). cond (test k) (bit_or byte (get_or placement k 0)) byte) byte (range_with_len k n)
+holders_byte test placement byte k n = fold (λ (byte k : ℕ). cond (test k) (bit_or byte (slice_index_or placement k 0)) byte) byte (range_with_len k n)
 
 module _ (test : ℕ → Bool) (placement : List ℕ) (p : ℕ) where
-  one_more : (byte k : ℕ) → bit (cond (test k) (bit_or byte (get_or placement k 0)) byte) p ≡ (bit byte p || (test k && bit (get_or placement k 0) p))
-  one_more byte k = ⊎_elim (λ (e : test k ≡ true). rw (e) (bit-bit_or byte (get_or placement k 0) p)) (λ (e : test k ≡ false). rw (e) (grind arith)) (cases_Bool (test k))
+  one_more : (byte k : ℕ) → bit (cond (test k) (bit_or byte (slice_index_or placement k 0)) byte) p ≡ (bit byte p || (test k && bit (slice_index_or placement k 0) p))
+  one_more byte k = ⊎_elim (λ (e : test k ≡ true). rw (e) (bit-bit_or byte (slice_index_or placement k 0) p)) (λ (e : test k ≡ false). rw (e) (grind arith)) (cases_Bool (test k))
 
-  byte_has : (n byte k : ℕ) → bit (holders_byte test placement byte k n) p ≡ true → (bit byte p ≡ true) ⊎ ((j : ℕ) × (test j ≡ true) × (bit (get_or placement j 0) p ≡ true))
+  byte_has : (n byte k : ℕ) → bit (holders_byte test placement byte k n) p ≡ true → (bit byte p ≡ true) ⊎ ((j : ℕ) × (test j ≡ true) × (bit (slice_index_or placement j 0) p ≡ true))
   byte_has zero byte k e = inl e
   byte_has (suc n) byte k e =
       ⊎_elim
-      (λ (h : bit (cond (test k) (bit_or byte (get_or placement k 0)) byte) p ≡ true).
-      ⊎_elim inl (λ (g : (test k && bit (get_or placement k 0) p) ≡ true). inr (k, (and_parts (test k) (bit (get_or placement k 0) p) g).0, (and_parts (test k) (bit (get_or placement k 0) p) g).1))
-      (or_cases (bit byte p) (test k && bit (get_or placement k 0) p) (sym (one_more byte k) ∙ h)))
-      inr (byte_has n (cond (test k) (bit_or byte (get_or placement k 0)) byte) (k + 1) e)
+      (λ (h : bit (cond (test k) (bit_or byte (slice_index_or placement k 0)) byte) p ≡ true).
+      ⊎_elim inl (λ (g : (test k && bit (slice_index_or placement k 0) p) ≡ true). inr (k, (and_parts (test k) (bit (slice_index_or placement k 0) p) g).0, (and_parts (test k) (bit (slice_index_or placement k 0) p) g).1))
+      (or_cases (bit byte p) (test k && bit (slice_index_or placement k 0) p) (sym (one_more byte k) ∙ h)))
+      inr (byte_has n (cond (test k) (bit_or byte (slice_index_or placement k 0)) byte) (k + 1) e)
 
   byte_keeps : (n byte k : ℕ) → bit byte p ≡ true → bit (holders_byte test placement byte k n) p ≡ true
   byte_keeps zero byte k e = e
-  byte_keeps (suc n) byte k e = byte_keeps n (cond (test k) (bit_or byte (get_or placement k 0)) byte) (k + 1) (one_more byte k ∙ or_left (bit byte p) (test k && bit (get_or placement k 0) p) e)
+  byte_keeps (suc n) byte k e = byte_keeps n (cond (test k) (bit_or byte (slice_index_or placement k 0)) byte) (k + 1) (one_more byte k ∙ or_left (bit byte p) (test k && bit (slice_index_or placement k 0) p) e)
 
-  byte_takes : (n byte k j : ℕ) → k ≤ j → j < k + n → test j ≡ true → bit (get_or placement j 0) p ≡ true → bit (holders_byte test placement byte k n) p ≡ true
+  byte_takes : (n byte k j : ℕ) → k ≤ j → j < k + n → test j ≡ true → bit (slice_index_or placement j 0) p ≡ true → bit (holders_byte test placement byte k n) p ≡ true
   byte_takes zero byte k j from below a b = absurd (omega arith)
   byte_takes (suc n) byte k j from below a b =
       ⊎_elim
-      (λ (e : k ≡ j). byte_keeps n (cond (test k) (bit_or byte (get_or placement k 0)) byte) (k + 1) (one_more byte k ∙ rw (e, a, b) (or_right (bit byte p) true refl)))
-      (λ (h : k ≡ j → ⊥). byte_takes n (cond (test k) (bit_or byte (get_or placement k 0)) byte) (k + 1) j (omega arith) (omega arith) a b)
+      (λ (e : k ≡ j). byte_keeps n (cond (test k) (bit_or byte (slice_index_or placement k 0)) byte) (k + 1) (one_more byte k ∙ rw (e, a, b) (or_right (bit byte p) true refl)))
+      (λ (h : k ≡ j → ⊥). byte_takes n (cond (test k) (bit_or byte (slice_index_or placement k 0)) byte) (k + 1) j (omega arith) (omega arith) a b)
       (cases_eq k j)
 
 pub polled_has : (w : World) (x : Transaction) (p : ℕ) → bit (polled_byte w x) p ≡ true → (k : ℕ) × ((noted x k || wrote x k) ≡ true) × (holds w p k ≡ true)
