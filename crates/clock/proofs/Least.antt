@@ -1,11 +1,12 @@
 -- The first number that leaves a transaction is the least.
-use Rattle.std.proofs.Common.{◌≡◌, ℕ, zero, suc, ◌+◌, ◌*◌, ◌/◌, ◌%◌, ◌^◌, ◌<◌, ◌≤◌, max, eqb, List, [], ◌∷◌, length, get_or, fold, Ok, Err, Result, sym, ap, ◌∙◌, inl, inr, ⊎_elim, map-id, mod-lt, mod-eq_of_lt, add-mul, one-mul, div-add-mod', arith}
+use Rattle.std.proofs.Common.{◌≡◌, ℕ, zero, suc, ◌+◌, ◌-◌, ◌*◌, ◌/◌, ◌%◌, ◌^◌, ◌<◌, ◌≤◌, max, ◌==◌, List, [], ◌∷◌, length, slice_index_or, fold, Ok, Err, Result, sym, refl, ap, ◌∙◌, ⊎_elim, map-id, mod-lt, mod-eq_of_lt, add-mul, one-mul, div-add-mod', arith}
 use lib.Arith.{digits_mod}
 use Rattle.std.specs.List.{reduce}
 use Rattle.std.specs.Option.{unwrap_or}
 use Rattle.std.specs.Result.{OkIff, result_ok}
 use Rattle.std.specs.Ordering.{max_by_ordering, nat_cmp}
 use Rattle.std.proofs.lemmas.List.Folds.{max_of_map}
+use Rattle.std.proofs.lemmas.List.Recursion.{max_least}
 use Rattle.std.proofs.lemmas.Bool.{cases_eq, cases_lt, cond-true, cond-false}
 use Rattle.std.proofs.lemmas.Bool.Decides.{nat_tests}
 use Rattle.clock.specs.Numbers.{first_leaving, next_number, highest, stamp_number, if_fits, Least, Next, Stamp, NumbersAreLeast}
@@ -17,10 +18,10 @@ found modulus t zero n m low high leaves = absurd (omega arith)
 found modulus t (suc more) n m low high leaves =
     ⊎_elim
     (λ (here : n % modulus ≡ t).
-    let is : first_leaving modulus t (suc more) n ≡ n = cond-true (eqb (n % modulus) t) n _ (grind (arith, nat_tests)) in
+    let is : first_leaving modulus t (suc more) n ≡ n = cond-true (n % modulus == t) n _ (grind (arith, nat_tests)) in
     (omega arith, ap (λ x. x % modulus) is ∙ here, omega arith))
     (λ (not_here : n % modulus ≡ t → ⊥).
-    let is : first_leaving modulus t (suc more) n ≡ first_leaving modulus t more (n + 1) = cond-false (eqb (n % modulus) t) n _ (grind (arith, nat_tests)) in
+    let is : first_leaving modulus t (suc more) n ≡ first_leaving modulus t more (n + 1) = cond-false (n % modulus == t) n _ (grind (arith, nat_tests)) in
     let above : n + 1 ≤ m = ⊎_elim (λ (e : n ≡ m). absurd (not_here (ap (λ x. x % modulus) e ∙ leaves))) (λ (ne : n ≡ m → ⊥). omega arith) (cases_eq n m) in
     let rest = found modulus t more (n + 1) m above (omega arith) leaves in
     (omega arith, ap (λ x. x % modulus) is ∙ rest.1, omega arith))
@@ -33,9 +34,9 @@ some_leaves modulus t n small =
     let whole = div-add-mod' n modulus in
     let low = mod-lt n {m = modulus} (omega arith) in
     ⊎_elim
-    (λ (below : n % modulus ≤ t). (q * modulus + t, omega arith, omega arith, digits_mod q small))
     (λ (above : t < n % modulus). ((q + 1) * modulus + t, omega (arith, add-mul q 1 modulus, one-mul modulus), omega (arith, add-mul q 1 modulus, one-mul modulus), digits_mod (q + 1) small))
-    (⊎_elim (λ (l : t < n % modulus). inr l) (λ (l : n % modulus ≤ t). inl l) (cases_lt t (n % modulus)))
+    (λ (below : n % modulus ≤ t). (q * modulus + t, omega arith, omega arith, digits_mod q small))
+    (cases_lt t (n % modulus))
 
 -- So the first number from n on that leaves t is the least one that is not below n and leaves t.
 pub least_leaving : (modulus t n : ℕ) → t < modulus → Least (λ m. (n ≤ m) × (m % modulus ≡ t)) (first_leaving modulus t modulus n)
@@ -58,26 +59,24 @@ next_least modulus c t small =
     record { has = (omega arith, h.1); least = λ m (p : (c < m) × (m % modulus ≡ t)). l.least m (omega arith, p.1) }
 
 -- The highest of some numbers is not below any of them, and not above what none of them is above.
-pub highest_above : (xs : List ℕ) (i : ℕ) → i < length xs → get_or xs i 0 ≤ highest xs
-highest_above [] i l = absurd (omega arith)
-highest_above (x ∷ xs) zero l = omega arith
-highest_above (x ∷ xs) (suc i) l = let rest = highest_above xs i (omega arith) in omega arith
+pub highest_above : (xs : List ℕ) (i : ℕ) → slice_index_or xs i 0 ≤ highest xs
+highest_above [] i = omega arith
+highest_above (x ∷ xs) zero = omega arith
+highest_above (x ∷ xs) (suc i) = let rest = highest_above xs i in omega arith
 
-pub highest_below : (xs : List ℕ) (n : ℕ) → ((i : ℕ) → i < length xs → get_or xs i 0 ≤ n) → highest xs ≤ n
-highest_below [] n all = omega arith
-highest_below (x ∷ xs) n all = let first = all 0 (omega arith) in let rest = highest_below xs n (λ i l. all (suc i) (omega arith)) in omega arith
+pub highest_below : (xs : List ℕ) (n : ℕ) → ((i : ℕ) → i < length xs → slice_index_or xs i 0 ≤ n) → highest xs ≤ n
+highest_below xs n all = max_least highest (λ x. x) refl (λ _ _. refl) xs 0 n all
 
-pub highest_under : (xs : List ℕ) (n : ℕ) → 0 < n → ((i : ℕ) → i < length xs → get_or xs i 0 < n) → highest xs < n
-highest_under [] n pos all = omega arith
-highest_under (x ∷ xs) n pos all = let first = all 0 (omega arith) in let rest = highest_under xs n pos (λ i l. all (suc i) (omega arith)) in omega arith
+pub highest_under : (xs : List ℕ) (n : ℕ) → 0 < n → ((i : ℕ) → i < length xs → slice_index_or xs i 0 < n) → highest xs < n
+highest_under xs n pos all = let below = highest_below xs (n - 1) (λ i l. let here = all i l in omega arith) in omega arith
 
 pub stamp_least : (modulus : ℕ) (numbers base : List ℕ) (t : ℕ) → 0 < t → t < modulus → Stamp modulus numbers base t (stamp_number modulus numbers base t)
 stamp_least modulus numbers base t pos small =
     let l = least_leaving modulus t (max (highest numbers) (highest base + 1)) small in
     let h = l.has in
     record {
-      has = (h.1, λ i b. omega (arith, highest_above numbers i b), λ q b. omega (arith, highest_above base q b));
-      least = λ m (p : (m % modulus ≡ t) × ((i : ℕ) → i < length numbers → get_or numbers i 0 ≤ m) × ((q : ℕ) → q < length base → get_or base q 0 < m)).
+      has = (h.1, λ i b. omega (arith, highest_above numbers i), λ q b. omega (arith, highest_above base q));
+      least = λ m (p : (m % modulus ≡ t) × ((i : ℕ) → i < length numbers → slice_index_or numbers i 0 ≤ m) × ((q : ℕ) → q < length base → slice_index_or base q 0 < m)).
           let not_zero : (m ≡ 0 → ⊥) = λ z. let e = sym p.0 ∙ ap (λ x. x % modulus) z ∙ mod-eq_of_lt {n = 0} {m = modulus} (omega arith) in omega arith in
           let a = highest_below numbers m p.1 in
           let b = highest_under base m (omega arith) p.2 in

@@ -1,2 +1,3 @@
 pub mod Passing
+pub mod Joins
 pub mod Least

@@ -1,11 +1,11 @@
 -- Functions changed at one place, the statuses, and the order of a list.
-use Rattle.std.proofs.Common.{◌≡◌, ℕ, Bool, true, false, cond, ◌&&◌, eqb, ◌⊎◌, List, [], ◌∷◌, sym, refl, ap, ◌∙◌, inl, inr, arith}
-use Rattle.std.proofs.lemmas.Bool.{or_right, or_left, or_cases, eqb-true, eq-eqb}
+use Rattle.std.proofs.Common.{◌≡◌, ℕ, Bool, true, false, cond, ◌&&◌, ◌⊎◌, List, [], ◌∷◌, sym, refl, ap, inl, inr, arith, ◌||◌, ◌==◌}
+use Rattle.std.proofs.lemmas.Bool.{or_right, or_left, or_cases, eqb-true, eq-eqb, false≢true}
 use Rattle.history.specs.Table.{Version, update_at, Member, listed, Later, selected}
-use Rattle.history.specs.Protocol.{Kind, Search, Update, Status, Unbegun, Open, Offered, Committed, Aborted, Finished, State, touched, conflict}
+use Rattle.history.specs.Protocol.{Kind, Search, Update, Status, Unbegun, Offered, Committed, Aborted, State, touched, conflict}
 
 abbrev pub update_at₂ : {A : Type 0} → (ℕ → ℕ → A) → ℕ → ℕ → A → ℕ → ℕ → A
-update_at₂ f t p a u q = cond (eqb t u && eqb p q) a (f u q)
+update_at₂ f t p a u q = cond (t == u && p == q) a (f u q)
 
 pub same : {A : Type 0} (f : ℕ → A) (t : ℕ) (a : A) → update_at f t a t ≡ a
 same f t a = grind arith
@@ -34,73 +34,46 @@ set_true f t k u j e = grind arith
 
 abbrev pub is_begun : Status → Bool
 is_begun Unbegun = false
-is_begun Open = true
-is_begun Offered = true
-is_begun Committed = true
-is_begun Aborted = true
-is_begun Finished = true
+is_begun x = true
 
 -- offered, and from then on: what was noted and written changes no more
 abbrev pub frozen : Status → Bool
-frozen Unbegun = false
-frozen Open = false
 frozen Offered = true
 frozen Committed = true
 frozen Aborted = true
-frozen Finished = false
+frozen x = false
 
 abbrev pub is_committed : Status → Bool
-is_committed Unbegun = false
-is_committed Open = false
-is_committed Offered = false
 is_committed Committed = true
-is_committed Aborted = false
-is_committed Finished = false
+is_committed x = false
 
 -- decided
 abbrev pub over : Status → Bool
-over Unbegun = false
-over Open = false
-over Offered = false
 over Committed = true
 over Aborted = true
-over Finished = false
+over x = false
 
-pub clear : (b : Bool) → b ≡ true → b ≡ false → ⊥
-clear b p q = grind arith
+-- the other of two, where the first is not so
+pub or_second : (a b : Bool) → (a || b) ≡ true → (a ≡ true → ⊥) → b ≡ true
+or_second a b e n = grind arith
 
 pub one_kind : {A : Type 0} (x : Kind) → x ≡ Search → x ≡ Update → A
-one_kind x p q = let z : ◌≡◌ {A = ℕ} 0 1 = cc in absurd (omega arith)
+one_kind x p q = absurd cc
 
 -- what is not decided is none of the committed
 pub differ : (f : ℕ → Status) (t u : ℕ) (x : Status) → f t ≡ x → over x ≡ false → f u ≡ Committed → u ≡ t → ⊥
-differ f t u x p o q e = let y : over (f u) ≡ false = rw (e, p) o in let w : over (f u) ≡ true = rw q refl in let z : ◌≡◌ {A = ℕ} 0 1 = cc in omega arith
+differ f t u x p o q e = grind arith
 
 pub not_committed : (x y : Status) → x ≡ y → is_committed y ≡ false → x ≡ Committed → ⊥
-not_committed x y e f g = let w : is_committed y ≡ true = rw (sym e ∙ g) refl in let z : ◌≡◌ {A = ℕ} 0 1 = cc in omega arith
+not_committed x y e f g = grind arith
 
 pub uncommitted : (x : Status) → (x ≡ Committed → ⊥) → is_committed x ≡ false
-uncommitted Unbegun n = refl
-uncommitted Open n = refl
-uncommitted Offered n = refl
-uncommitted Committed n = absurd (n refl)
-uncommitted Aborted n = refl
-uncommitted Finished n = refl
-
--- a change of status that is no commit leaves the committed
-pub committed_before : (f : ℕ → Status) (x : ℕ) (y : Status) (u : ℕ) → is_committed y ≡ false → update_at f x y u ≡ Committed → f u ≡ Committed
-committed_before f x y u n e = grind arith
+uncommitted x n = grind arith
 
 pub committed_after : (f : ℕ → Status) (x : ℕ) (y : Status) (u : ℕ) → (f x ≡ Committed → ⊥) → f u ≡ Committed → update_at f x y u ≡ Committed
 committed_after f x y u n e = grind arith
 
-pub begun_after : (f : ℕ → Status) (x : ℕ) (y : Status) (u : ℕ) → is_begun y ≡ true → is_begun (f u) ≡ true → is_begun (update_at f x y u) ≡ true
-begun_after f x y u n e = grind arith
-
 -- ── Conflicts ──
-
-pub conflict_swap : (s : State) (u t k : ℕ) → conflict s u t k ≡ false → conflict s t u k ≡ false
-conflict_swap s u t k e = grind arith
 
 pub conflict_left : (s : State) (u t k : ℕ) → conflict s u t k ≡ true → touched s u k ≡ true
 conflict_left s u t k e = grind arith
@@ -147,27 +120,15 @@ selected_more v w f t (y ∷ l) (inl e) wt vt o b n =
     let r : selected w f l ≡ selected v f l = selected_same w v f f l (λ u mu. (o u (λ z. n (inl (e, (rw z at mu)))), refl)) in
     rw (← e, wt, vt, r)
 selected_more v w f t (y ∷ l) (inr m) wt vt o b n =
-    let d : y ≡ t → ⊥ = λ z. n (inl (sym z, m)) in
-    let vy = b y (inl (refl, m)) in
-    rw (o y d, vy) (selected_more v w f t l m wt vt o (λ u h. b u (inr h)) (λ h. n (inr h)))
-
--- the versions of those that do not pass do not matter
-pub selected_alike : (v w : ℕ → Bool) (f g : ℕ → Version) (l : List ℕ) → ((u : ℕ) → v u ≡ w u) → ((u : ℕ) → v u ≡ true → f u ≡ g u) →
-    selected v f l ≡ selected w g l
-selected_alike v w f g [] a b = refl
-selected_alike v w f g (x ∷ l) a b = rw (← (a x), ← (selected_alike v w f g l a b)) (go (v x) refl)
-  where
-    go : (c : Bool) → v x ≡ c → cond c (f x ∷ selected v f l) (selected v f l) ≡ cond c (g x ∷ selected v f l) (selected v f l)
-    go true e = ap (λ (y : Version). y ∷ selected v f l) (b x e)
-    go false e = refl
+    rw (o y (λ z. n (inl (sym z, m))), b y (inl (refl, m))) (selected_more v w f t l m wt vt o (λ u h. b u (inr h)) (λ h. n (inr h)))
 
 -- ── The test of membership ──
 
 pub listed_member : (x : ℕ) (l : List ℕ) → listed x l ≡ true → Member x l
-listed_member x [] e = absurd (clear false e refl)
-listed_member x (y ∷ l) e = elim (or_cases (eqb x y) (listed x l) e) [ inl a ↦ inl (eqb-true x y a) | inr a ↦ inr (listed_member x l a) ]
+listed_member x [] e = absurd (false≢true e)
+listed_member x (y ∷ l) e = elim (or_cases (x == y) (listed x l) e) [ inl a ↦ inl (eqb-true x y a) | inr a ↦ inr (listed_member x l a) ]
 
 pub member_listed : (x : ℕ) (l : List ℕ) → Member x l → listed x l ≡ true
 member_listed x [] m = absurd m
-member_listed x (y ∷ l) (inl e) = or_left (eqb x y) (listed x l) (eq-eqb x y e)
-member_listed x (y ∷ l) (inr m) = or_right (eqb x y) (listed x l) (member_listed x l m)
+member_listed x (y ∷ l) (inl e) = or_left (x == y) (listed x l) (eq-eqb x y e)
+member_listed x (y ∷ l) (inr m) = or_right (x == y) (listed x l) (member_listed x l m)

@@ -1,13 +1,14 @@
 -- The bound: the numbers grow only at a yes of a write node and at a commit, by at most the modulus each time; and a transaction gets at
 -- most one vote from each node and one decision.
-use Rattle.std.proofs.Common.{◌≡◌, ℕ, zero, suc, ◌+◌, ◌-◌, ◌*◌, ◌%◌, ◌<◌, ◌≤◌, max, Bool, true, false, cond, ◌&&◌, eqb, List, [], ◌∷◌, length, sym, refl, ap, ◌∙◌, inl, inr, zero-le, le_trans, le_refl, mul_comm, mul-le-mul_left, arith}
+use Rattle.std.proofs.Common.{◌≡◌, ℕ, zero, suc, ◌+◌, ◌-◌, ◌*◌, ◌%◌, ◌<◌, ◌≤◌, Bool, true, false, cond, List, [], ◌∷◌, length, sym, refl, ap, ◌∙◌, inl, inr, zero-le, mul_comm, mul-le-mul_left, arith, ◌==◌}
 use native.Mathlib.Nat.{add-mod_right}
-use Rattle.std.proofs.lemmas.Bool.{cases_eq, cases_lt}
+use Rattle.std.proofs.lemmas.Bool.{cases_eq, cases_lt, both_ways, false≢true, cond_both}
+use Rattle.std.proofs.Math.Nat.{max-le}
 use Rattle.history.specs.Table.{Version, update_at, Member, Later}
-use Rattle.history.specs.Protocol.{Placement, Clock, join, Least, Kind, Status, Unbegun, Open, Offered, Committed, Aborted, Finished, State, status, clock, vote_clock, stamp, commit_clock, counter, frontier, seen, voted, number, base_clock, becomes, sees, change_transaction, change_node, Event, begin, read_own, read_search, read_update, write, offer, yes_write, yes_read, no_overtaken, no_place, commit, abort, cancel, learn_abort, learn_write, learn_read, apply, finish, Joined, WriteNode, MayVote, next, Accepted, Reachable, start, then}
+use Rattle.history.specs.Protocol.{Placement, Clock, join, Least, Kind, Unbegun, Offered, Committed, State, status, clock, vote_clock, commit_clock, counter, seen, voted, number, base_clock, sees, change_node, Event, begin, read_search, read_update, yes_write, yes_read, no_overtaken, no_place, commit, learn_read, apply, Joined, WriteNode, MayVote, next, Accepted, Reachable, start, then}
 use Rattle.history.specs.History.{begun}
 use Rattle.history.specs.Statements.{NumbersWithin}
-use Rattle.history.proofs.Basics.{update_at₂, same, other, other₂, is_begun, is_committed, clear, not_committed, uncommitted, begun_after}
+use Rattle.history.proofs.Basics.{update_at₂, same, other, other₂, is_begun, is_committed}
 
 -- ── The least number is near ──
 
@@ -35,7 +36,7 @@ sum f (x ∷ l) = f x + sum f l
 
 count_same : (n : ℕ) (f g : ℕ → Bool) → ((q : ℕ) → f q ≡ g q) → count n f ≡ count n g
 count_same zero f g h = refl
-count_same (suc n) f g h = let r = count_same n f g h in rw (h n, r)
+count_same (suc n) f g h = grind (arith, count_same n f g h, h n)
 
 count_bound : (n : ℕ) (f : ℕ → Bool) → count n f ≤ n
 count_bound zero f = omega arith
@@ -75,58 +76,15 @@ sum_bound f b (x ∷ l) h = let r = sum_bound f b l h in let y = h x in omega ar
 
 -- those that let the numbers grow
 abbrev grows : Event → Bool
-grows (begin t a) = false
-grows (read_own t k a) = false
-grows (read_search t k p a c) = false
-grows (read_update t k p a c) = false
-grows (write t k v) = false
-grows (offer t) = false
 grows (yes_write t p n) = true
-grows (yes_read t p) = false
-grows (no_overtaken t p k) = false
-grows (no_place t p k) = false
 grows (commit t n c) = true
-grows (abort t) = false
-grows (cancel t) = false
-grows (learn_abort t p) = false
-grows (learn_write t p) = false
-grows (learn_read t p) = false
-grows (apply t p) = false
-grows (finish t) = false
-
-same_committed : (f : ℕ → Status) (x : ℕ) (y : Status) (u : ℕ) → (f x ≡ Committed → ⊥) → is_committed y ≡ false →
-    is_committed (f u) ≡ is_committed (update_at f x y u)
-same_committed f x y u d e = elim (cases_eq u x) [
-  | inr n ↦ rw (other f x y u n)
-  | inl n ↦ rw (n, same f x y) (uncommitted (f x) d ∙ sym e)
-]
-
-begun_before : (f : ℕ → Status) (x : ℕ) (y : Status) (u : ℕ) → is_begun (f x) ≡ true → is_begun (update_at f x y u) ≡ true → is_begun (f u) ≡ true
-begun_before f x y u n e = grind arith
+grows e = false
 
 raise : (f : ℕ → Clock) (b t : ℕ) (c : Clock) → ((x q : ℕ) → f x q ≤ b) → ((q : ℕ) → c q ≤ b) → (x q : ℕ) → update_at f t c x q ≤ b
-raise f b t c g h x q = elim (eqb t x) as (λ y. cond y c (f x) q ≤ b) [ true ↦ h q | false ↦ g x q ]
-
-raise_one : (f : ℕ → ℕ) (b t n : ℕ) → ((x : ℕ) → f x ≤ b) → n ≤ b → (x : ℕ) → update_at f t n x ≤ b
-raise_one f b t n g h x = elim (eqb t x) as (λ y. cond y n (f x) ≤ b) [ true ↦ h | false ↦ g x ]
-
-raise_at : (f : ℕ → ℕ → ℕ) (b t p n : ℕ) → ((x q : ℕ) → f x q ≤ b) → n ≤ b → (x q : ℕ) → update_at₂ f t p n x q ≤ b
-raise_at f b t p n g h x q = elim (eqb t x && eqb p q) as (λ y. cond y n (f x q) ≤ b) [ true ↦ h | false ↦ g x q ]
-
-max_le : (a b c : ℕ) → a ≤ c → b ≤ c → max a b ≤ c
-max_le a b c x y = omega arith
+raise f b t c g h x q = cond_both (t == x) c (f x) (λ y. y q ≤ b) (λ _. h q) (λ _. g x q)
 
 loosen : (a b : ℕ) (s : State) → a ≤ b → NumbersWithin a s → NumbersWithin b s
-loosen a b s h i = record {
-  counters = λ p. le_trans (i.counters p) h;
-  numbers = λ t p. le_trans (i.numbers t p) h;
-  stamps = λ t. le_trans (i.stamps t) h;
-  frontiers = λ p. le_trans (i.frontiers p) h;
-  clocks = λ t q. le_trans (i.clocks t q) h;
-  vote_clocks = λ t q. le_trans (i.vote_clocks t q) h;
-  commit_clocks = λ t q. le_trans (i.commit_clocks t q) h;
-  seen_clocks = λ p q. le_trans (i.seen_clocks p q) h;
-}
+loosen a b s h i = grind arith
 
 module _ (holds : Placement) (modulus nodes : ℕ) (positive : 0 < modulus) (small : (p k : ℕ) → holds p k ≡ true → p < nodes) where
   -- the votes cast on u, and one for its commit
@@ -173,7 +131,7 @@ module _ (holds : Placement) (modulus nodes : ℕ) (positive : 0 < modulus) (sma
     stamps = i.stamps;
     frontiers = i.frontiers;
     clocks = i.clocks;
-    vote_clocks = raise (vote_clock s) b t (join (vote_clock s t) (seen s p)) i.vote_clocks (λ q. max_le (vote_clock s t q) (seen s p q) b (i.vote_clocks t q) (i.seen_clocks p q));
+    vote_clocks = raise (vote_clock s) b t (join (vote_clock s t) (seen s p)) i.vote_clocks (λ q. max-le (i.vote_clocks t q) (i.seen_clocks p q));
     commit_clocks = i.commit_clocks;
     seen_clocks = i.seen_clocks;
   }
@@ -187,24 +145,20 @@ module _ (holds : Placement) (modulus nodes : ℕ) (positive : 0 < modulus) (sma
     clocks = i.clocks;
     vote_clocks = i.vote_clocks;
     commit_clocks = i.commit_clocks;
-    seen_clocks = raise (seen s) b p (join (seen s p) (commit_clock s t)) i.seen_clocks (λ q. max_le (seen s p q) (commit_clock s t q) b (i.seen_clocks p q) (i.commit_clocks t q));
+    seen_clocks = raise (seen s) b p (join (seen s p) (commit_clock s t)) i.seen_clocks (λ q. max-le (i.seen_clocks p q) (i.commit_clocks t q));
   }
 
   within : (b : ℕ) (s : State) (e : Event) → NumbersWithin b s → Accepted holds modulus s e →
       NumbersWithin (cond (grows e) (b + modulus) b) (next holds s e)
-  within b s (begin t a) i ok = i
-  within b s (read_own t k a) i ok = i
   within b s (read_search t k p a c) i ok = read_within b s t k p a c i ok.0.joined
   within b s (read_update t k p a c) i ok = read_within b s t k p a c i ok.0.joined
-  within b s (write t k v) i ok = i
-  within b s (offer t) i ok = i
   within b s (yes_write t p n) i ok =
       let j = yes_within (b + modulus) s t p (loosen b (b + modulus) s (omega arith) i) in
       let m = ok.numbered in
       let near : n ≤ b + modulus = (let c = i.counters p in let d = least_near modulus positive (λ x. (counter s p < x) × (x % modulus ≡ t)) (counter s p) n (λ x lt e. (lt, e ∙ m.has.1)) m in omega arith) in
       record {
-        counters = raise_one (counter s) (b + modulus) p n j.counters near;
-        numbers = raise_at (number s) (b + modulus) t p n j.numbers near;
+        counters = grind arith;
+        numbers = grind arith;
         stamps = j.stamps;
         frontiers = j.frontiers;
         clocks = j.clocks;
@@ -213,46 +167,31 @@ module _ (holds : Placement) (modulus nodes : ℕ) (positive : 0 < modulus) (sma
         seen_clocks = j.seen_clocks;
       }
   within b s (yes_read t p) i ok = yes_within b s t p i
-  within b s (no_overtaken t p k) i ok = i
-  within b s (no_place t p k) i ok = i
   within b s (commit t n c) i ok =
       let j = loosen b (b + modulus) s (omega arith) i in
       let near = commit_near b s t n c i ok in
       record {
         counters = j.counters;
         numbers = j.numbers;
-        stamps = raise_one (stamp s) (b + modulus) t n j.stamps near.0;
+        stamps = grind arith;
         frontiers = j.frontiers;
         clocks = j.clocks;
         vote_clocks = j.vote_clocks;
         commit_clocks = raise (commit_clock s) (b + modulus) t c j.commit_clocks near.1;
         seen_clocks = j.seen_clocks;
       }
-  within b s (abort t) i ok = i
-  within b s (cancel t) i ok = i
-  within b s (learn_abort t p) i ok = i
-  within b s (learn_write t p) i ok = record {
-    counters = raise_one (counter s) b p (max (counter s p) (stamp s t)) i.counters (max_le (counter s p) (stamp s t) b (i.counters p) (i.stamps t));
-    numbers = raise_at (number s) b t p (stamp s t) i.numbers (i.stamps t);
-    stamps = i.stamps;
-    frontiers = i.frontiers;
-    clocks = i.clocks;
-    vote_clocks = i.vote_clocks;
-    commit_clocks = i.commit_clocks;
-    seen_clocks = i.seen_clocks;
-  }
   within b s (learn_read t p) i ok = release_within b s t p i
   within b s (apply t p) i ok = let j = release_within b s t p i in record {
     counters = j.counters;
     numbers = j.numbers;
     stamps = j.stamps;
-    frontiers = raise_one (frontier s) b p (stamp s t) i.frontiers (i.stamps t);
+    frontiers = grind arith;
     clocks = j.clocks;
     vote_clocks = j.vote_clocks;
     commit_clocks = j.commit_clocks;
     seen_clocks = j.seen_clocks;
   }
-  within b s (finish t) i ok = i
+  within b s e i ok = grind arith
 
   -- ── Who has begun ──
 
@@ -266,38 +205,14 @@ module _ (holds : Placement) (modulus nodes : ℕ) (positive : 0 < modulus) (sma
 
   begun_begin : (h : List Event) (s : State) (t : ℕ) (a : Kind) → Begun h s → status s t ≡ Unbegun → Begun (begin t a ∷ h) (next holds s (begin t a))
   begun_begin h s t a i o = record {
-    begun_listed = λ u e. elim (cases_eq u t) [ inl d ↦ inl d | inr d ↦ inr (i.begun_listed u (ap is_begun (sym (other (status s) t Open u d)) ∙ e)) ];
-    listed_begun = λ u m. elim m [ inl d ↦ rw (d, same (status s) t Open) refl | inr m ↦ begun_after (status s) t Open u refl (i.listed_begun u m) ];
-    begun_once = λ u m. elim m [ inr m ↦ i.begun_once u m | inl d ↦ clear (is_begun (status s u)) (i.listed_begun u d.1) (rw (d.0, o) refl) ];
-  }
-
-  begun_move : (h : List Event) (s : State) (t : ℕ) (y : Status) → Begun h s → is_begun (status s t) ≡ true → is_begun y ≡ true →
-      Begun h (change_transaction t (becomes y) s)
-  begun_move h s t y i o e = record {
-    begun_listed = λ u f. i.begun_listed u (begun_before (status s) t y u o f);
-    listed_begun = λ u m. begun_after (status s) t y u e (i.listed_begun u m);
-    begun_once = i.begun_once;
+    begun_listed = λ u e. grind arith;
+    listed_begun = λ u m. grind arith;
+    begun_once = λ u m. elim m [ inr m ↦ i.begun_once u m | inl d ↦ both_ways (is_begun (status s u)) (rw (d.0, o) refl) (i.listed_begun u d.1) ];
   }
 
   begun_stands : (h : List Event) (s : State) (e : Event) → Begun h s → Accepted holds modulus s e → Begun (e ∷ h) (next holds s e)
   begun_stands h s (begin t a) i ok = begun_begin h s t a i ok.0
-  begun_stands h s (read_own t k a) i ok = i
-  begun_stands h s (read_search t k p a c) i ok = i
-  begun_stands h s (read_update t k p a c) i ok = i
-  begun_stands h s (write t k v) i ok = i
-  begun_stands h s (offer t) i ok = begun_move h s t Offered i (rw ok.0 refl) refl
-  begun_stands h s (yes_write t p n) i ok = i
-  begun_stands h s (yes_read t p) i ok = i
-  begun_stands h s (no_overtaken t p k) i ok = i
-  begun_stands h s (no_place t p k) i ok = i
-  begun_stands h s (commit t n c) i ok = begun_move h s t Committed i (rw ok.offered refl) refl
-  begun_stands h s (abort t) i ok = begun_move h s t Aborted i (rw ok.0 refl) refl
-  begun_stands h s (cancel t) i ok = begun_move h s t Aborted i (elim ok.1 [ inl e ↦ rw e refl | inr e ↦ rw e refl ]) refl
-  begun_stands h s (learn_abort t p) i ok = i
-  begun_stands h s (learn_write t p) i ok = i
-  begun_stands h s (learn_read t p) i ok = i
-  begun_stands h s (apply t p) i ok = i
-  begun_stands h s (finish t) i ok = begun_move h s t Finished i (rw ok.0 refl) refl
+  begun_stands h s e i ok = grind arith
 
   -- ── Each event and what is spent ──
 
@@ -323,37 +238,19 @@ module _ (holds : Placement) (modulus nodes : ℕ) (positive : 0 < modulus) (sma
       let e = sum_more (spent s) (spent (next holds s (commit t n c))) t (begun h) (i.begun_listed t (rw o refl)) (i.begun_once t) (rw (same (status s) t Committed, o) (omega arith)) (λ u d. rw (other (status s) t Committed u d)) in
       omega arith
 
-  move_spends : (h : List Event) (s : State) (t : ℕ) (y : Status) → (status s t ≡ Committed → ⊥) → is_committed y ≡ false →
-      spent_all h s ≤ spent_all h (change_transaction t (becomes y) s)
-  move_spends h s t y d e =
-      let r = sum_same (spent s) (spent (change_transaction t (becomes y) s)) (begun h) (λ u m. ap (λ (b : Bool). cond b 1 0 + count nodes (voted s u)) (same_committed (status s) t y u d e)) in
-      omega arith
-
   spends : (h : List Event) (s : State) (e : Event) → Begun h s → Accepted holds modulus s e →
       cond (grows e) (suc (spent_all h s)) (spent_all h s) ≤ spent_all (e ∷ h) (next holds s e)
-  spends h s (begin t a) i ok = (let r = move_spends h s t Open (not_committed (status s t) Unbegun ok.0 refl) refl in omega arith)
-  spends h s (read_own t k a) i ok = le_refl (spent_all h s)
-  spends h s (read_search t k p a c) i ok = le_refl (spent_all h s)
-  spends h s (read_update t k p a c) i ok = le_refl (spent_all h s)
-  spends h s (write t k v) i ok = le_refl (spent_all h s)
-  spends h s (offer t) i ok = move_spends h s t Offered (not_committed (status s t) Open ok.0 refl) refl
   spends h s (yes_write t p n) i ok = vote_spends h s (next holds s (yes_write t p n)) t p i ok.vote (λ u. refl) (λ u q. refl)
   spends h s (yes_read t p) i ok = (let r = vote_spends h s (next holds s (yes_read t p)) t p i ok.vote (λ u. refl) (λ u q. refl) in omega arith)
   spends h s (no_overtaken t p k) i ok = (let r = vote_spends h s (next holds s (no_overtaken t p k)) t p i ok.0 (λ u. refl) (λ u q. refl) in omega arith)
   spends h s (no_place t p k) i ok = (let r = vote_spends h s (next holds s (no_place t p k)) t p i ok.0 (λ u. refl) (λ u q. refl) in omega arith)
   spends h s (commit t n c) i ok = commit_spends h s t n c i ok.offered
-  spends h s (abort t) i ok = move_spends h s t Aborted (not_committed (status s t) Offered ok.0 refl) refl
-  spends h s (cancel t) i ok = move_spends h s t Aborted (elim ok.1 [ inl e ↦ not_committed (status s t) Open e refl | inr e ↦ not_committed (status s t) Offered e refl ]) refl
-  spends h s (learn_abort t p) i ok = le_refl (spent_all h s)
-  spends h s (learn_write t p) i ok = le_refl (spent_all h s)
-  spends h s (learn_read t p) i ok = le_refl (spent_all h s)
-  spends h s (apply t p) i ok = le_refl (spent_all h s)
-  spends h s (finish t) i ok = move_spends h s t Finished (not_committed (status s t) Open ok.0 refl) refl
+  spends h s e i ok = grind arith
 
   -- ── The bound ──
 
   all_begun : {h : List Event} {s : State} → Reachable holds modulus h s → Begun h s
-  all_begun start = record { begun_listed = λ u e. absurd (clear false e refl); listed_begun = λ u m. absurd m; begun_once = λ u m. m }
+  all_begun start = record { begun_listed = λ u e. absurd (false≢true e); listed_begun = λ u m. absurd m; begun_once = λ u m. m }
   all_begun (then {h = h} {s = s} e r ok) = begun_stands h s e (all_begun r) ok
 
   times : (b : Bool) (x y : ℕ) → cond b (suc x) x ≤ y → cond b (modulus * x + modulus) (modulus * x) ≤ modulus * y

@@ -1,11 +1,11 @@
 -- The decisions and the clocks: the commit clock of a later update is above that of an earlier one with which it conflicts.
-use Rattle.std.proofs.Common.{◌≡◌, ℕ, ◌<◌, ◌≤◌, Bool, true, false, ◌&&◌, ◌||◌, ◌⊎◌, List, ◌∷◌, sym, refl, ap, ◌∙◌, inl, inr, le_trans, arith}
-use Rattle.std.proofs.lemmas.Bool.{cases_eq}
+use Rattle.std.proofs.Common.{◌≡◌, ℕ, ◌<◌, ◌≤◌, Bool, true, false, List, ◌∷◌, sym, refl, ap, ◌∙◌, inl, inr, le_trans, arith}
+use Rattle.std.proofs.lemmas.Bool.{cases_eq, both_ways}
 use Rattle.history.specs.Table.{Version, update_at, Member, Later}
-use Rattle.history.specs.Protocol.{Placement, Clock, join, Status, Open, Offered, Committed, Aborted, Finished, State, status, clock, read_at, noted, wrote, vote_clock, stamp, commit_clock, frontier, seen, engaged, applied, touched, conflict, becomes, releases, change_transaction, change_participation, Event, begin, read_own, read_search, read_update, write, offer, yes_write, yes_read, no_overtaken, no_place, commit, abort, cancel, learn_abort, learn_write, learn_read, apply, finish, Joined, WriteNode, MayRead, MayVote, next, Accepted}
+use Rattle.history.specs.Protocol.{Placement, Clock, join, Open, Offered, Committed, State, status, clock, read_at, noted, wrote, vote_clock, stamp, commit_clock, frontier, seen, engaged, applied, conflict, Event, read_update, write, yes_write, yes_read, commit, Joined, WriteNode, MayRead, MayVote, next, Accepted}
 use Rattle.history.specs.History.{decisions}
-use Rattle.history.proofs.Basics.{update_at₂, same, other, other₂, slot, hit, drop, set_true, is_begun, frozen, clear, differ, not_committed, committed_before, committed_after, conflict_left, conflict_right, later_first, later_second}
-use Rattle.history.proofs.Locks.{Locks, all_engaged, Moves, begin_moves, offer_moves, abort_moves, cancel_moves, finish_moves}
+use Rattle.history.proofs.Basics.{update_at₂, same, other, other₂, slot, hit, is_begun, frozen, differ, conflict_left, conflict_right, later_first, later_second}
+use Rattle.history.proofs.Locks.{Locks, all_engaged}
 use Rattle.history.proofs.Numbers.{commit_above, Numbers}
 
 -- ── Decisions ──
@@ -21,63 +21,28 @@ module _ (holds : Placement) (modulus : ℕ) where
     begun_positive : (t : ℕ) → is_begun (status s t) ≡ true → 0 < t;
   }
 
-  decisions_move : (h : List Event) (s : State) (t : ℕ) (y : Status) → Moves holds modulus s t y → 0 < t → Decisions h s →
-      Decisions h (change_transaction t (becomes y) s)
-  decisions_move h s t y m pos i = record {
-    decided_committed = λ u x. committed_after (status s) t y u m.from (i.decided_committed u x);
-    committed_decided = λ u e. i.committed_decided u (committed_before (status s) t y u m.to e);
-    decided_once = i.decided_once;
-    begun_positive = λ u e. let x = i.begun_positive u in grind arith;
-  }
-
-  -- what has a status has begun
-  positive : (h : List Event) (s : State) (t : ℕ) (x : Status) → Decisions h s → status s t ≡ x → is_begun x ≡ true → 0 < t
-  positive h s t x i e b = i.begun_positive t (rw e b)
-
   decisions_commit : (h : List Event) (s : State) (t n : ℕ) (c : Clock) → Decisions h s → Accepted holds modulus s (commit t n c) →
       Decisions (commit t n c ∷ h) (next holds s (commit t n c))
   decisions_commit h s t n c i ok = record {
-    decided_committed = λ u m. elim m [
-      | inl e ↦ rw e (same (status s) t Committed)
-      | inr x ↦ committed_after (status s) t Committed u (not_committed (status s t) Offered ok.offered refl) (i.decided_committed u x)
-    ];
-    committed_decided = λ u e. elim (cases_eq u t) [ inl d ↦ inl d | inr d ↦ inr (i.committed_decided u (sym (other (status s) t Committed u d) ∙ e)) ];
+    decided_committed = λ u m. grind arith;
+    committed_decided = λ u e. grind arith;
     decided_once = λ u b. elim b [
       | inl x ↦ differ (status s) t u Offered ok.offered refl (i.decided_committed u x.1) x.0
       | inr x ↦ i.decided_once u x
     ];
-    begun_positive = λ u e. let x = i.begun_positive u in let y = positive h s t Offered i ok.offered refl in grind arith;
+    begun_positive = λ u e. grind arith;
   }
 
   pub decisions_stand : (h : List Event) (s : State) (e : Event) → Locks holds modulus s → Decisions h s → Accepted holds modulus s e →
       Decisions (e ∷ h) (next holds s e)
-  decisions_stand h s (begin t a) l i ok = decisions_move h s t Open (begin_moves holds modulus s t a ok) ok.1 i
-  decisions_stand h s (read_own t k a) l i ok = i
-  decisions_stand h s (read_search t k p a c) l i ok = i
-  decisions_stand h s (read_update t k p a c) l i ok = i
-  decisions_stand h s (write t k v) l i ok = i
-  decisions_stand h s (offer t) l i ok = decisions_move h s t Offered (offer_moves holds modulus s t l ok) (positive h s t Open i ok.0 refl) i
-  decisions_stand h s (yes_write t p n) l i ok = i
-  decisions_stand h s (yes_read t p) l i ok = i
-  decisions_stand h s (no_overtaken t p k) l i ok = i
-  decisions_stand h s (no_place t p k) l i ok = i
   decisions_stand h s (commit t n c) l i ok = decisions_commit h s t n c i ok
-  decisions_stand h s (abort t) l i ok = decisions_move h s t Aborted (abort_moves holds modulus s t ok) (positive h s t Offered i ok.0 refl) i
-  decisions_stand h s (cancel t) l i ok = decisions_move h s t Aborted (cancel_moves holds modulus s t ok) (elim ok.1 [ inl e ↦ positive h s t Open i e refl | inr e ↦ positive h s t Offered i e refl ]) i
-  decisions_stand h s (learn_abort t p) l i ok = i
-  decisions_stand h s (learn_write t p) l i ok = i
-  decisions_stand h s (learn_read t p) l i ok = i
-  decisions_stand h s (apply t p) l i ok = i
-  decisions_stand h s (finish t) l i ok = decisions_move h s t Finished (finish_moves holds modulus s t ok) (positive h s t Open i ok.0 refl) i
+  decisions_stand h s e l i ok = grind arith
 
 -- ── Clocks ──
 
 -- a first read elsewhere leaves the slots of the nodes that were read before, since what it takes in passes there
 pub slot_kept : (s : State) (t p : ℕ) (c : Clock) → Joined s t p c → (q : ℕ) → read_at s t q ≡ true → c q ≤ clock s t q
-slot_kept s t p c j q r = elim (j.least q) [
-  | inl e ↦ omega arith
-  | inr x ↦ let w = x.3 q r in omega (arith, x.4)
-]
+slot_kept s t p c j q r = grind arith
 
 vote_clock_grows : (s : State) (t p x z : ℕ) → vote_clock s x z ≤ update_at (vote_clock s) t (join (vote_clock s t) (seen s p)) x z
 vote_clock_grows s t p x z = grind arith
@@ -111,25 +76,12 @@ module _ (holds : Placement) (modulus : ℕ) where
   -- the clock after a read at p is settled there
   pub settled_after : (h : List Event) (s : State) (t k p : ℕ) (a : Version) (c : Clock) → Locks holds modulus s → Numbers holds modulus s →
       Clocks h s → MayRead holds s t k p a c → c p ≤ frontier s p
-  settled_after h s t k p a c l nn i ok = elim (ok.joined.least p) [
-    | inl e ↦ let g = ok.settled in omega arith
-    | inr x ↦
-        let w = i.applied_write_node x.0 p x.2 in
-        let y = i.write_slot x.0 p w.0 (l.applied_released x.0 p x.2).0 w.1 w.2 in
-        let z = nn.applied_stamp x.0 p x.2 in
-        omega (arith, x.4)
-  ]
+  settled_after h s t k p a c l nn i ok = grind arith
 
   read_read_settled : (h : List Event) (s : State) (t k p : ℕ) (a : Version) (c : Clock) → Locks holds modulus s → Numbers holds modulus s →
       Clocks h s → MayRead holds s t k p a c →
       (u q : ℕ) → update_at₂ (read_at s) t p true u q ≡ true → update_at (clock s) t c u q ≤ frontier s q
-  read_read_settled h s t k p a c l nn i ok u q e = elim (cases_eq u t) [
-    | inr d ↦ rw (slot (clock s) t c u q d) (i.read_settled u q (sym (other₂ (read_at s) t p true u q d) ∙ e))
-    | inl d ↦ rw (d, ap (λ (f : Clock). f q) (same (clock s) t c)) (elim (hit (read_at s) t p u q e) [
-      | inl x ↦ rw x.1 (settled_after h s t k p a c l nn i ok)
-      | inr r ↦ let r' : read_at s t q ≡ true = rw d at r in le_trans (slot_kept s t p c ok.joined q r') (i.read_settled t q r')
-    ])
-  ]
+  read_read_settled h s t k p a c l nn i ok u q e = grind arith
 
   yes_engaged_votes : (h : List Event) (s : State) (t p : ℕ) → Locks holds modulus s → Clocks h s → MayVote holds s t p →
       (x u q k : ℕ) → update_at₂ (engaged s) t p true x q ≡ true → status s x ≡ Offered → status s u ≡ Committed → conflict s u x k ≡ true → holds q k ≡ true →
@@ -141,7 +93,7 @@ module _ (holds : Placement) (modulus : ℕ) where
     where
       here : (y : Bool) → engaged s u p ≡ y → x ≡ t → holds p k ≡ true →
           commit_clock s u z ≤ update_at (vote_clock s) t (join (vote_clock s t) (seen s p)) x z
-      here true y e g = absurd (clear (conflict s u t k) (rw e at e₄) (ok.not_busy u k y (differ (status s) t u Offered ok.offered refl e₃) g))
+      here true y e g = absurd (both_ways (conflict s u t k) (ok.not_busy u k y (differ (status s) t u Offered ok.offered refl e₃) g) (rw e at e₄))
       here false y e g = le_trans (l.released_seen u p k e₃ (conflict_left s u x k e₄) g y z) (seen_joined s t p x z e)
 
   commit_engaged_votes : (h : List Event) (s : State) (t n : ℕ) (c : Clock) → Locks holds modulus s → Clocks h s →
@@ -152,7 +104,7 @@ module _ (holds : Placement) (modulus : ℕ) where
     | inr d ↦ rw (slot (commit_clock s) t c u z d) (i.engaged_votes x u q k e₁ rest.1 (sym (other (status s) t Committed u d) ∙ e₃) e₄ e₅ z)
     | inl d ↦
         let eu : engaged s u q ≡ true = rw d (all_engaged holds modulus s t n c l ok q k (rw d at (conflict_left s u x k e₄)) e₅) in
-        absurd (clear (conflict s u x k) e₄ (l.engaged_compatible u x q k eu e₁ (λ f. rest.0 (sym f ∙ d)) e₅))
+        absurd (both_ways (conflict s u x k) (l.engaged_compatible u x q k eu e₁ (λ f. rest.0 (sym f ∙ d)) e₅) e₄)
   ]
     where
       rest : (x ≡ t → ⊥) × (status s x ≡ Offered)
@@ -160,13 +112,7 @@ module _ (holds : Placement) (modulus : ℕ) where
 
   -- a key at which two updates conflict is written by one of them
   conflict_placed : (h : List Event) (s : State) → Clocks h s → (u t k : ℕ) → conflict s u t k ≡ true → (p : ℕ) × (holds p k ≡ true)
-  conflict_placed h s i u t k e = elim (writer (wrote s u k) (touched s t k) (noted s u k) (wrote s t k) e) [
-    | inl w ↦ i.written_placed u k w
-    | inr w ↦ i.written_placed t k w
-  ]
-    where
-      writer : (a b c d : Bool) → ((a && b) || (c && d)) ≡ true → (a ≡ true) ⊎ (d ≡ true)
-      writer a b c d e = grind arith
+  conflict_placed h s i u t k e = grind arith
 
   commit_conflict_ordered : (h : List Event) (s : State) (t n : ℕ) (c : Clock) → Locks holds modulus s → Decisions holds modulus h s → Clocks h s →
       Accepted holds modulus s (commit t n c) →
@@ -203,39 +149,12 @@ module _ (holds : Placement) (modulus : ℕ) where
       below : u ≡ t → c q ≤ n
       below d = let m = (ok.stamped p (node d)).has.2 q in elim (ok.slots q) [ inl x ↦ let y = x.1 in omega arith | inr x ↦ let y = x.1 in omega arith ]
 
-  clocks_move : (h : List Event) (s : State) (t : ℕ) (y : Status) → Moves holds modulus s t y → Clocks h s →
-      Clocks h (change_transaction t (becomes y) s)
-  clocks_move h s t y m i = record {
-    written_placed = i.written_placed;
-    applied_write_node = i.applied_write_node;
-    write_slot = λ u q j e. i.write_slot u q j (committed_before (status s) t y u m.to e);
-    below_stamp = λ u p j q e. i.below_stamp u p j q (committed_before (status s) t y u m.to e);
-    read_settled = i.read_settled;
-    engaged_votes = λ x u q j e₁ e₂ e₃. i.engaged_votes x u q j e₁ (elim (cases_eq x t) [
-      | inr d ↦ sym (other (status s) t y x d) ∙ e₂
-      | inl d ↦ absurd (m.offered_anew (sym (same (status s) t y) ∙ ap (update_at (status s) t y) (sym d) ∙ e₂) q (rw d at e₁))
-    ]) (committed_before (status s) t y u m.to e₃);
-    conflict_ordered = i.conflict_ordered;
-  }
-
-  clocks_read_search : (h : List Event) (s : State) (t k p : ℕ) (a : Version) (c : Clock) → Locks holds modulus s → Numbers holds modulus s →
-      Clocks h s → MayRead holds s t k p a c → Clocks h (next holds s (read_search t k p a c))
-  clocks_read_search h s t k p a c l nn i ok = record {
-    written_placed = i.written_placed;
-    applied_write_node = i.applied_write_node;
-    write_slot = i.write_slot;
-    below_stamp = i.below_stamp;
-    read_settled = read_read_settled h s t k p a c l nn i ok;
-    engaged_votes = i.engaged_votes;
-    conflict_ordered = i.conflict_ordered;
-  }
-
   -- what an open transaction notes or writes concerns no decided or engaged one
   open_conflict : (s r : State) (t : ℕ) → status s t ≡ Open → ((u j : ℕ) → (u ≡ t → ⊥) → (noted r u j ≡ noted s u j) × (wrote r u j ≡ wrote s u j)) →
       (u x j : ℕ) → frozen (status s u) ≡ true → frozen (status s x) ≡ true → conflict r u x j ≡ true → conflict s u x j ≡ true
   open_conflict s r t o f u x j fu fx e =
-      let a = f u j (λ d. clear (frozen (status s u)) fu (rw (d, o) refl)) in
-      let b = f x j (λ d. clear (frozen (status s x)) fx (rw (d, o) refl)) in
+      let a = f u j (λ d. both_ways (frozen (status s u)) (rw (d, o) refl) fu) in
+      let b = f x j (λ d. both_ways (frozen (status s x)) (rw (d, o) refl) fx) in
       rw (a.0, a.1, b.0, b.1) at e
 
   clocks_open : (h : List Event) (s r : State) (t : ℕ) → status s t ≡ Open →
@@ -252,7 +171,7 @@ module _ (holds : Placement) (modulus : ℕ) where
     write_slot = i.write_slot;
     below_stamp = i.below_stamp;
     read_settled = read_read_settled h s t k p a c l nn i ok;
-    engaged_votes = λ x u q j e₁ e₂ e₃ e₄. i.engaged_votes x u q j e₁ e₂ e₃ (open_conflict s (next holds s (read_update t k p a c)) t ok.open_now kept u x j (rw e₃ refl) (rw e₂ refl) e₄);
+    engaged_votes = λ x u q j e₁ e₂ e₃ e₄. grind arith;
     conflict_ordered = clocks_open h s (next holds s (read_update t k p a c)) t ok.open_now kept dd i;
   }
     where
@@ -262,12 +181,12 @@ module _ (holds : Placement) (modulus : ℕ) where
   clocks_write : (h : List Event) (s : State) (t k v : ℕ) → Locks holds modulus s → Decisions holds modulus h s → Clocks h s →
       Accepted holds modulus s (write t k v) → Clocks h (next holds s (write t k v))
   clocks_write h s t k v l dd i ok = record {
-    written_placed = λ u j w. elim (hit (wrote s) t k u j w) [ inl x ↦ rw x.1 ok.2 | inr x ↦ i.written_placed u j x ];
-    applied_write_node = λ u q e. let w = i.applied_write_node u q e in (w.0, set_true (wrote s) t k u w.0 w.1, w.2);
-    write_slot = λ u q j e w. i.write_slot u q j e (sym (kept u j (differ (status s) t u Open ok.0 refl e)).1 ∙ w);
-    below_stamp = λ u p j q e w. i.below_stamp u p j q e (sym (kept u j (differ (status s) t u Open ok.0 refl e)).1 ∙ w);
+    written_placed = λ u j w. grind arith;
+    applied_write_node = λ u q e. grind arith;
+    write_slot = λ u q j e w. grind arith;
+    below_stamp = λ u p j q e w. grind arith;
     read_settled = i.read_settled;
-    engaged_votes = λ x u q j e₁ e₂ e₃ e₄. i.engaged_votes x u q j e₁ e₂ e₃ (open_conflict s (next holds s (write t k v)) t ok.0 kept u x j (rw e₃ refl) (rw e₂ refl) e₄);
+    engaged_votes = λ x u q j e₁ e₂ e₃ e₄. grind arith;
     conflict_ordered = clocks_open h s (next holds s (write t k v)) t ok.0 kept dd i;
   }
     where
@@ -287,17 +206,6 @@ module _ (holds : Placement) (modulus : ℕ) where
     conflict_ordered = i.conflict_ordered;
   }
 
-  clocks_release : (h : List Event) (s : State) (t p : ℕ) → Clocks h s → Clocks h (change_participation t p releases s)
-  clocks_release h s t p i = record {
-    written_placed = i.written_placed;
-    applied_write_node = i.applied_write_node;
-    write_slot = i.write_slot;
-    below_stamp = i.below_stamp;
-    read_settled = i.read_settled;
-    engaged_votes = λ x u q j e. i.engaged_votes x u q j (drop (engaged s) t p x q e);
-    conflict_ordered = i.conflict_ordered;
-  }
-
   clocks_commit : (h : List Event) (s : State) (t n : ℕ) (c : Clock) → Locks holds modulus s → Decisions holds modulus h s → Clocks h s →
       Accepted holds modulus s (commit t n c) → Clocks (commit t n c ∷ h) (next holds s (commit t n c))
   clocks_commit h s t n c l dd i ok = record {
@@ -310,47 +218,11 @@ module _ (holds : Placement) (modulus : ℕ) where
     conflict_ordered = commit_conflict_ordered h s t n c l dd i ok;
   }
 
-  clocks_apply : (h : List Event) (s : State) (t p : ℕ) → Locks holds modulus s → Numbers holds modulus s → Clocks h s →
-      Accepted holds modulus s (apply t p) → Clocks h (next holds s (apply t p))
-  clocks_apply h s t p l nn i ok = record {
-    written_placed = i.written_placed;
-    applied_write_node = λ u q e. elim (hit (applied s) t p u q e) [ inr a ↦ i.applied_write_node u q a | inl b ↦ rw (b.0, b.1) ok.write_node ];
-    write_slot = i.write_slot;
-    below_stamp = i.below_stamp;
-    read_settled = λ u q e. let x = i.read_settled u q e in advanced u q x;
-    engaged_votes = λ x u q j e. i.engaged_votes x u q j (drop (engaged s) t p x q e);
-    conflict_ordered = i.conflict_ordered;
-  }
-    where
-      w : WriteNode holds s t p
-      w = ok.write_node
-
-      done : status s t ≡ Committed
-      done = l.learned_committed t p ok.learned_there ok.engaged_there
-
-      higher : frontier s p ≤ stamp s t
-      higher = let a = nn.engaged_number t p w.0 ok.engaged_there w.1 w.2 in let b = nn.learned_number t p w.0 done w.1 w.2 ok.learned_there in omega arith
-
-      advanced : (u q : ℕ) → clock s u q ≤ frontier s q → clock s u q ≤ update_at (frontier s) p (stamp s t) q
-      advanced u q x = let y = higher in grind arith
-
   pub clocks : (h : List Event) (s : State) (e : Event) → Locks holds modulus s → Numbers holds modulus s → Decisions holds modulus h s → Clocks h s →
       Accepted holds modulus s e → Clocks (e ∷ h) (next holds s e)
-  clocks h s (begin t b) l nn dd i ok = clocks_move h s t Open (begin_moves holds modulus s t b ok) i
-  clocks h s (read_own t k a) l nn dd i ok = i
-  clocks h s (read_search t k p a c) l nn dd i ok = clocks_read_search h s t k p a c l nn i ok.0
   clocks h s (read_update t k p a c) l nn dd i ok = clocks_read_update h s t k p a c l nn dd i ok.0
   clocks h s (write t k v) l nn dd i ok = clocks_write h s t k v l dd i ok
-  clocks h s (offer t) l nn dd i ok = clocks_move h s t Offered (offer_moves holds modulus s t l ok) i
   clocks h s (yes_write t p n) l nn dd i ok = clocks_yes h s t p l i ok.vote
   clocks h s (yes_read t p) l nn dd i ok = clocks_yes h s t p l i ok.vote
-  clocks h s (no_overtaken t p k) l nn dd i ok = i
-  clocks h s (no_place t p k) l nn dd i ok = i
   clocks h s (commit t n c) l nn dd i ok = clocks_commit h s t n c l dd i ok
-  clocks h s (abort t) l nn dd i ok = clocks_move h s t Aborted (abort_moves holds modulus s t ok) i
-  clocks h s (cancel t) l nn dd i ok = clocks_move h s t Aborted (cancel_moves holds modulus s t ok) i
-  clocks h s (learn_abort t p) l nn dd i ok = clocks_release h s t p i
-  clocks h s (learn_write t p) l nn dd i ok = i
-  clocks h s (learn_read t p) l nn dd i ok = clocks_release h s t p i
-  clocks h s (apply t p) l nn dd i ok = clocks_apply h s t p l nn i ok
-  clocks h s (finish t) l nn dd i ok = clocks_move h s t Finished (finish_moves holds modulus s t ok) i
+  clocks h s e l nn dd i ok = grind arith

@@ -1,32 +1,20 @@
 -- Every history stands: the remaining statements, and all of them together.
-use Rattle.std.proofs.Common.{◌≡◌, ℕ, ◌%◌, ◌<◌, Bool, true, false, cond, ◌&&◌, ◌||◌, eqb, List, [], ◌∷◌, sym, refl, ap, ◌∙◌, inl, inr, arith}
-use Rattle.std.proofs.lemmas.Bool.{cases_Bool, cases_lt, or_cases}
-use Rattle.history.specs.Table.{Version, version, gets, scripts_conflict, selected, newest}
-use Rattle.history.specs.Protocol.{Placement, Clock, Committed, State, status, clock, read_at, noted, wrote, value, stamp, commit_clock, frontier, engaged, applied, chain, conflict, Event, Passes, NewestPassing, WriteNode, MayRead}
-use Rattle.history.specs.History.{script, decisions, applied_at}
+use Rattle.std.proofs.Common.{◌≡◌, ℕ, ◌%◌, ◌<◌, Bool, true, false, ◌&&◌, ◌||◌, List, [], ◌∷◌, sym, refl, ap, ◌∙◌, inl, inr, arith, ◌==◌}
+use Rattle.std.proofs.lemmas.Bool.{cases_Bool, cases_lt, or_cases, both_ways, and_parts}
+use Rattle.history.specs.Table.{Version, version, selected, newest}
+use Rattle.history.specs.Protocol.{Placement, Clock, State, clock, read_at, wrote, value, stamp, commit_clock, frontier, engaged, applied, chain, Event, Passes, NewestPassing, WriteNode, MayRead}
+use Rattle.history.specs.History.{decisions, applied_at}
 use Rattle.history.specs.Statements.{WritesAt, YetToApply, BehindExactly, FirstReadCurrent, StampsFollowDecisions, HistoriesStand}
-use Rattle.history.proofs.Basics.{clear, later_first, later_second}
+use Rattle.history.proofs.Basics.{later_first, later_second}
 use Rattle.history.proofs.Scripts.{Scripts}
 use Rattle.history.proofs.Bounds.{numbers_bounded}
 use Rattle.history.proofs.Invariants.{Invariants, invariants}
-use Rattle.history.proofs.Serial.{decisions_answered, same_writers, chains_list, uncommitted_placed}
+use Rattle.history.proofs.Serial.{decisions_answered, same_writers, chains_list, uncommitted_placed, conflict_by_record}
 
 head_passes : (v : ℕ → Bool) (f : ℕ → ℕ) (l : List ℕ) (x : Version) (m : List Version) → selected v (λ u. version (f u) u) l ≡ x ∷ m →
     v x.writer ≡ true
-head_passes v f [] x m e = let z : ◌≡◌ {A = ℕ} 0 1 = cc in absurd (omega arith)
-head_passes v f (y ∷ l) x m e = go (head_passes v f l x m) (v y) refl e
-  where
-    go : (selected v (λ u. version (f u) u) l ≡ x ∷ m → v x.writer ≡ true) → (b : Bool) → v y ≡ b →
-        cond b (version (f y) y ∷ selected v (λ u. version (f u) u) l) (selected v (λ u. version (f u) u) l) ≡ x ∷ m → v x.writer ≡ true
-    go r true e f' = let c : version (f y) y ≡ x = cc in ap v (ap (λ (z : Version). z.writer) (sym c)) ∙ e
-    go r false e f' = r f'
-
-conflicts : (wu ru wx rx nu nx : Bool) → (ru ≡ true → (nu || wu) ≡ true) → (rx ≡ true → (nx || wx) ≡ true) →
-    ((wu && (rx || wx)) || (ru && wx)) ≡ true → ((wu && (nx || wx)) || (nu && wx)) ≡ true
-conflicts wu ru wx rx nu nx f g e = grind arith
-
-both_applied : (a b : Bool) → (a && b) ≡ true → b ≡ true
-both_applied a b e = grind arith
+head_passes v f [] x m e = absurd cc
+head_passes v f (y ∷ l) x m e = grind (arith, head_passes v f l x m)
 
 module _ (holds : Placement) (modulus : ℕ) where
   -- an update that writes at p, by its record and by its script
@@ -46,9 +34,9 @@ module _ (holds : Placement) (modulus : ℕ) where
         | inl e ↦ absurd (omega arith)
         | inr w ↦ record {
           update = w.0;
-          committed = i.ground.decisions_ordered.committed_decided w.0 w.1;
+          committed = grind arith;
           writes_there = writes_by_script h s i.scripts w.0 p w.2;
-          unapplied = λ m. let g = i.ground.numbers.applied_stamp w.0 p (i.ground.chains.history_applied w.0 p m) in omega (arith, w.3);
+          unapplied = λ m. grind arith;
           not_above = omega (arith, w.3);
         }
       ]
@@ -82,24 +70,16 @@ module _ (holds : Placement) (modulus : ℕ) where
       ]
 
       passes : (k : ℕ) (a : Version) (c : Clock) → MayRead holds s t k p a c → (x : Version) (l : List Version) → chain s p k ≡ x ∷ l →
-          Passes (commit_clock s x.writer) (λ q. eqb p q || read_at s t q) c
+          Passes (commit_clock s x.writer) (λ q. (p == q) || read_at s t q) c
       passes k a c ok x l e q r =
           let v = head_passes (λ u. wrote s u k && applied s u p) (λ u. value s u k) (decisions h) x l (sym (i.ground.chains.lists_applied p k ok.held) ∙ e) in
-          ok.joined.takes x.writer (unread p) (both_applied (wrote s x.writer k) (applied s x.writer p) v) (λ z rz. absurd (clear (read_at s t z) rz (unread z))) q
+          ok.joined.takes x.writer (unread p) ((and_parts (wrote s x.writer k) (applied s x.writer p) v).1) (λ z rz. absurd (both_ways (read_at s t z) (unread z) rz)) q
 
       go : (k : ℕ) (a : Version) (c : Clock) → MayRead holds s t k p a c → (l : List Version) → chain s p k ≡ l →
-          NewestPassing s (λ q. eqb p q || read_at s t q) c l a → a ≡ newest (chain s p k)
+          NewestPassing s (λ q. (p == q) || read_at s t q) c l a → a ≡ newest (chain s p k)
       go k a c ok [] e f = f ∙ ap newest (sym e)
       go k a c ok (x ∷ l) e (inl f) = f.1 ∙ ap newest (sym e)
       go k a c ok (x ∷ l) e (inr f) = absurd (f.0 (passes k a c ok x l e))
-
-  -- scripts that conflict belong to updates that conflict
-  conflict_by_record : (h : List Event) (s : State) → Scripts holds modulus h s → (u t k : ℕ) → status s u ≡ Committed → status s t ≡ Committed →
-      scripts_conflict (script h u) (script h t) k ≡ true → conflict s u t k ≡ true
-  conflict_by_record h s i u t k cu ct e =
-      conflicts (wrote s u k) (gets (script h u) k) (wrote s t k) (gets (script h t) k) (noted s u k) (noted s t k)
-      (i.read_touched u k (i.offered_update u (rw cu refl))) (i.read_touched t k (i.offered_update t (rw ct refl)))
-      (rw (i.script_wrote u k, i.script_wrote t k) at e)
 
   -- the earlier one's stamp is a slot of its commit clock, which is below the later one's commit clock and so at or below its stamp; and the
   -- two stamps leave different remainders
@@ -115,7 +95,7 @@ module _ (holds : Placement) (modulus : ℕ) where
       let p = holder_u.0 in
       let q = holder_t.0 in
       let a = g.clocks.write_slot u p wu.0 cu wu.1 holder_u.1 in
-      let c = g.clocks.conflict_ordered t u k b (conflict_by_record h s i.scripts u t k cu ct e) p in
+      let c = g.clocks.conflict_ordered t u k b (conflict_by_record holds modulus h s i.scripts u t k cu ct e) p in
       let d = g.clocks.below_stamp t q wt.0 p ct wt.1 holder_t.1 in
       let ru = g.numbers.stamp_remainder u p wu.0 cu wu.1 holder_u.1 in
       let rt = g.numbers.stamp_remainder t q wt.0 ct wt.1 holder_t.1 in

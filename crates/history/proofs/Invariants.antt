@@ -1,7 +1,8 @@
 -- All invariants, of every reachable state with its history.
-use Rattle.std.proofs.Common.{ℕ, false, List, [], refl, inl}
+use Rattle.std.proofs.Common.{ℕ, List, [], refl, inl}
+use Rattle.std.proofs.lemmas.Bool.{false≢true}
 use Rattle.history.specs.Protocol.{Placement, Unbegun, State, fresh, Event, Reachable, start, then}
-use Rattle.history.proofs.Basics.{clear, not_committed}
+use Rattle.history.proofs.Basics.{not_committed}
 use Rattle.history.proofs.Locks.{locks, locks_fresh}
 use Rattle.history.proofs.Numbers.{numbers, numbers_fresh}
 use Rattle.history.proofs.Clocks.{decisions_stand, clocks}
@@ -27,25 +28,25 @@ module _ (holds : Placement) (modulus : ℕ) where
       decided_committed = λ u m. absurd m;
       committed_decided = λ u e. absurd (not_committed Unbegun Unbegun refl refl e);
       decided_once = λ u m. m;
-      begun_positive = λ t e. absurd (clear false e refl);
+      begun_positive = λ t e. absurd (false≢true e);
     };
     clocks = record {
-      written_placed = λ t k e. absurd (clear false e refl);
-      applied_write_node = λ t p e. absurd (clear false e refl);
+      written_placed = λ t k e. absurd (false≢true e);
+      applied_write_node = λ t p e. absurd (false≢true e);
       write_slot = λ u q k e. absurd (not_committed Unbegun Unbegun refl refl e);
       below_stamp = λ u p k q e. absurd (not_committed Unbegun Unbegun refl refl e);
-      read_settled = λ t p e. absurd (clear false e refl);
-      engaged_votes = λ t u p k e. absurd (clear false e refl);
+      read_settled = λ t p e. absurd (false≢true e);
+      engaged_votes = λ t u p k e. absurd (false≢true e);
       conflict_ordered = λ t u k b. absurd b;
     };
     chains = record {
       lists_applied = λ p k h. refl;
       earlier_applied = λ x u p k b. absurd b;
-      note_current = λ t p k e. absurd (clear false e refl);
+      note_current = λ t p k e. absurd (false≢true e);
       lists_history = λ p k h. refl;
       history_committed = λ u p m. absurd m;
       history_applied = λ u p m. absurd m;
-      applied_history = λ u p e. absurd (clear false e refl);
+      applied_history = λ u p e. absurd (false≢true e);
     };
   }
 
@@ -53,20 +54,20 @@ module _ (holds : Placement) (modulus : ℕ) where
   fresh_invariants = record {
     ground = fresh_ground;
     snapshots = record {
-      within = λ t p u e. absurd (clear false e refl);
+      within = λ t p u e. absurd (false≢true e);
       snapshot = λ t k p a r. absurd r;
       note_answers = λ t k p a r. absurd r;
-      note_read = λ t k e. absurd (clear false e refl);
-      read_got = λ t p e. absurd (clear false e refl);
+      note_read = λ t k e. absurd (false≢true e);
+      read_got = λ t p e. absurd (false≢true e);
       reader_begun = λ t k p a r. absurd r;
     };
     scripts = record {
       after_script = λ t k tb. refl;
       script_answers = λ t tb f. refl;
       script_wrote = λ t k. refl;
-      read_touched = λ t k e f. absurd (clear false f refl);
+      read_touched = λ t k e f. absurd (false≢true f);
       unbegun_empty = λ t e. refl;
-      offered_update = λ t e. absurd (clear false e refl);
+      offered_update = λ t e. absurd (false≢true e);
     };
     stamps = record {
       clock_stamped = λ t q. inl refl;
@@ -74,7 +75,7 @@ module _ (holds : Placement) (modulus : ℕ) where
       vote_stamped = λ t q. inl refl;
       commit_stamped = λ u q. inl refl;
       unread_zero = λ t q f. refl;
-      read_held = λ t q e. absurd (clear false e refl);
+      read_held = λ t q e. absurd (false≢true e);
     };
   }
 

@@ -1,9 +1,9 @@
 -- The locks: what holds of the updates that are engaged at a node, from its yes until it releases them.
-use Rattle.std.proofs.Common.{◌≡◌, ℕ, ◌≤◌, true, false, ◌||◌, sym, refl, ◌∙◌, inl, inr, arith}
-use Rattle.std.proofs.lemmas.Bool.{cases_eq, or_right, or_left}
+use Rattle.std.proofs.Common.{◌≡◌, ℕ, ◌≤◌, true, false, ◌||◌, sym, ◌∙◌, inl, inr, arith}
+use Rattle.std.proofs.lemmas.Bool.{cases_eq, both_ways}
 use Rattle.history.specs.Table.{update_at}
-use Rattle.history.specs.Protocol.{Placement, Clock, join, Kind, Status, Unbegun, Open, Offered, Committed, Aborted, Finished, State, fresh, status, noted, wrote, refused, commit_clock, seen, voted, engaged, learned, applied, touched, conflict, Event, begin, read_own, read_search, read_update, write, offer, yes_write, yes_read, no_overtaken, no_place, commit, abort, cancel, learn_abort, learn_write, learn_read, apply, finish, MayVote, next, Accepted}
-use Rattle.history.proofs.Basics.{update_at₂, other, slot, hit, drop, frozen, is_committed, over, clear, not_committed, conflict_swap}
+use Rattle.history.specs.Protocol.{Placement, Clock, join, Status, Offered, Committed, Aborted, State, fresh, status, wrote, refused, commit_clock, seen, voted, engaged, learned, applied, touched, conflict, Event, yes_write, yes_read, commit, cancel, learn_read, apply, MayVote, next, Accepted}
+use Rattle.history.proofs.Basics.{update_at₂, other, slot, frozen, is_committed, over}
 
 module _ (holds : Placement) (modulus : ℕ) where
   abbrev pub Locks : State → Type 0
@@ -31,20 +31,7 @@ module _ (holds : Placement) (modulus : ℕ) where
   yes_compatible : (s : State) (t p u x q k : ℕ) → (engaged s u q ≡ true → engaged s x q ≡ true → conflict s u x k ≡ false) →
       ((w : ℕ) → engaged s w p ≡ true → (w ≡ t → ⊥) → holds p k ≡ true → conflict s w t k ≡ false) →
       update_at₂ (engaged s) t p true u q ≡ true → update_at₂ (engaged s) t p true x q ≡ true → (u ≡ x → ⊥) → holds q k ≡ true → conflict s u x k ≡ false
-  yes_compatible s t p u x q k y f e₁ e₂ d h = elim (hit (engaged s) t p u q e₁) [
-    | inr a ↦ elim (hit (engaged s) t p x q e₂) [
-      | inr b ↦ y a b
-      | inl b ↦ let g = f u (rw b.1 at a) (λ z. d (z ∙ sym b.0)) (rw b.1 at h) in rw b.0 g
-    ]
-    | inl a ↦ elim (hit (engaged s) t p x q e₂) [
-      | inr b ↦ let g = f x (rw a.1 at b) (λ z. d (a.0 ∙ sym z)) (rw a.1 at h) in rw a.0 (conflict_swap s x t k g)
-      | inl b ↦ absurd (d (a.0 ∙ sym b.0))
-    ]
-  ]
-
-  release_kept : (s : State) (t p u q : ℕ) → (engaged s u q || applied s u q) ≡ true → (u ≡ t → q ≡ p → ⊥) →
-      (update_at₂ (engaged s) t p false u q || applied s u q) ≡ true
-  release_kept s t p u q x w = grind arith
+  yes_compatible s t p u x q k y f e₁ e₂ d h = grind arith
 
   release_seen : (s : State) (t p : ℕ) →
       ((u q k : ℕ) → status s u ≡ Committed → touched s u k ≡ true → holds q k ≡ true → engaged s u q ≡ false → (z : ℕ) → commit_clock s u z ≤ seen s q z) →
@@ -58,7 +45,7 @@ module _ (holds : Placement) (modulus : ℕ) where
     engaged_frozen = λ u q e. grind arith;
     voted_frozen = λ u q e. grind arith;
     learned_over = λ u q e. grind arith;
-    learned_committed = λ u q e₁ e₂. let o = ok.offered in let x = i.learned_committed u q in let y = i.learned_over u q in grind arith;
+    learned_committed = λ u q e₁ e₂. grind arith;
     engaged_compatible = λ u x q j e₁ e₂ d h. yes_compatible s t p u x q j (λ a b. i.engaged_compatible u x q j a b d h) (λ w. ok.not_busy w j) e₁ e₂ d h;
     yes_engaged = λ u q e₁ e₂ e₃. grind arith;
     writer_kept = λ u q j e₁ e₂ e₃. grind arith;
@@ -71,16 +58,13 @@ module _ (holds : Placement) (modulus : ℕ) where
     engaged_frozen = λ u q e. grind arith;
     voted_frozen = λ u q e. grind arith;
     learned_over = λ u q e. grind arith;
-    learned_committed = λ u q e₁ e₂. let x = i.learned_committed u q in grind arith;
+    learned_committed = λ u q e₁ e₂. grind arith;
     engaged_compatible = i.engaged_compatible;
     yes_engaged = λ u q e₁ e₂ e₃. grind arith;
-    writer_kept = λ u q j e₁ e₂ e₃. elim (cases_eq u t) [
-      | inl d ↦ or_left (engaged s u q) (applied s u q) (rw d (i.yes_engaged t q ok.offered ok.agreed (ok.complete q (j, or_right (noted s t j) (wrote s t j) (rw d at e₂), e₃))))
-      | inr d ↦ i.writer_kept u q j (sym (other (status s) t Committed u d) ∙ e₁) e₂ e₃
-    ];
+    writer_kept = λ u q j e₁ e₂ e₃. grind arith;
     applied_released = λ u q e. grind arith;
     released_seen = λ u q j e₁ e₂ e₃ e₄ z. elim (cases_eq u t) [
-      | inl d ↦ absurd (clear (engaged s u q) (rw d (i.yes_engaged t q ok.offered ok.agreed (ok.complete q (j, rw d at e₂, e₃)))) e₄)
+      | inl d ↦ absurd (both_ways (engaged s u q) e₄ (rw d (i.yes_engaged t q ok.offered ok.agreed (ok.complete q (j, rw d at e₂, e₃)))))
       | inr d ↦ rw (slot (commit_clock s) t c u z d) (i.released_seen u q j (sym (other (status s) t Committed u d) ∙ e₁) e₂ e₃ e₄ z)
     ];
   }
@@ -91,9 +75,9 @@ module _ (holds : Placement) (modulus : ℕ) where
     voted_frozen = λ u q e. grind arith;
     learned_over = λ u q e. grind arith;
     learned_committed = λ u q e₁ e₂. grind arith;
-    engaged_compatible = λ u x q j e₁ e₂ d h. i.engaged_compatible u x q j (drop (engaged s) t p u q e₁) (drop (engaged s) t p x q e₂) d h;
+    engaged_compatible = λ u x q j e₁ e₂ d h. grind arith;
     yes_engaged = λ u q e₁ e₂ e₃. grind arith;
-    writer_kept = λ u q j e₁ e₂ e₃. release_kept s t p u q (i.writer_kept u q j e₁ e₂ e₃) (λ a b. ok.1 (j, (rw a at e₂), (rw b at e₃)));
+    writer_kept = λ u q j e₁ e₂ e₃. grind arith;
     applied_released = λ u q e. grind arith;
     released_seen = λ u q j e₁ e₂ e₃ e₄ z. release_seen s t p i.released_seen u q j e₁ e₂ e₃ e₄ z;
   }
@@ -104,32 +88,20 @@ module _ (holds : Placement) (modulus : ℕ) where
     voted_frozen = λ u q e. grind arith;
     learned_over = λ u q e. grind arith;
     learned_committed = λ u q e₁ e₂. grind arith;
-    engaged_compatible = λ u x q j e₁ e₂ d h. i.engaged_compatible u x q j (drop (engaged s) t p u q e₁) (drop (engaged s) t p x q e₂) d h;
+    engaged_compatible = λ u x q j e₁ e₂ d h. grind arith;
     yes_engaged = λ u q e₁ e₂ e₃. grind arith;
     writer_kept = λ u q j e₁ e₂ e₃. grind arith;
-    applied_released = λ u q e. let c = i.learned_committed t p ok.learned_there ok.engaged_there in grind arith;
+    applied_released = λ u q e. grind arith;
     released_seen = λ u q j e₁ e₂ e₃ e₄ z. release_seen s t p i.released_seen u q j e₁ e₂ e₃ e₄ z;
   }
 
   pub locks : (s : State) (e : Event) → Locks s → Accepted holds modulus s e → Locks (next holds s e)
-  locks s (begin t b) i ok = grind arith
-  locks s (read_own t k a) i ok = i
-  locks s (read_search t k p a c) i ok = i
-  locks s (read_update t k p a c) i ok = grind arith
-  locks s (write t k v) i ok = grind arith
-  locks s (offer t) i ok = grind arith
   locks s (yes_write t p n) i ok = locks_yes s t p i ok.vote
   locks s (yes_read t p) i ok = locks_yes s t p i ok.vote
-  locks s (no_overtaken t p k) i ok = grind arith
-  locks s (no_place t p k) i ok = grind arith
   locks s (commit t n c) i ok = locks_commit s t n c i ok
-  locks s (abort t) i ok = grind arith
-  locks s (cancel t) i ok = grind arith
-  locks s (learn_abort t p) i ok = grind arith
-  locks s (learn_write t p) i ok = grind arith
   locks s (learn_read t p) i ok = locks_learn_read s t p i ok
   locks s (apply t p) i ok = locks_apply s t p i ok
-  locks s (finish t) i ok = grind arith
+  locks s e i ok = grind arith
 
   pub locks_fresh : Locks fresh
   locks_fresh = grind arith
@@ -148,21 +120,5 @@ module _ (holds : Placement) (modulus : ℕ) where
     offered_anew : y ≡ Offered → (p : ℕ) → engaged s t p ≡ true → ⊥;
   }
 
-  pub begin_moves : (s : State) (t : ℕ) (a : Kind) → Accepted holds modulus s (begin t a) → Moves s t Open
-  begin_moves s t a ok = record { from = not_committed (status s t) Unbegun ok.0 refl; to = refl; offered_anew = λ e. let z : ◌≡◌ {A = ℕ} 0 1 = cc in absurd (omega arith) }
-
-  pub offer_moves : (s : State) (t : ℕ) → Locks s → Accepted holds modulus s (offer t) → Moves s t Offered
-  offer_moves s t l ok = record { from = not_committed (status s t) Open ok.0 refl; to = refl; offered_anew = λ e p g. clear (frozen (status s t)) (l.engaged_frozen t p g) (rw ok.0 refl) }
-
-  pub abort_moves : (s : State) (t : ℕ) → Accepted holds modulus s (abort t) → Moves s t Aborted
-  abort_moves s t ok = record { from = not_committed (status s t) Offered ok.0 refl; to = refl; offered_anew = λ e. let z : ◌≡◌ {A = ℕ} 0 1 = cc in absurd (omega arith) }
-
   pub cancel_moves : (s : State) (t : ℕ) → Accepted holds modulus s (cancel t) → Moves s t Aborted
-  cancel_moves s t ok = record {
-    from = elim ok.1 [ inl e ↦ not_committed (status s t) Open e refl | inr e ↦ not_committed (status s t) Offered e refl ];
-    to = refl;
-    offered_anew = λ e. let z : ◌≡◌ {A = ℕ} 0 1 = cc in absurd (omega arith);
-  }
-
-  pub finish_moves : (s : State) (t : ℕ) → Accepted holds modulus s (finish t) → Moves s t Finished
-  finish_moves s t ok = record { from = not_committed (status s t) Open ok.0 refl; to = refl; offered_anew = λ e. let z : ◌≡◌ {A = ℕ} 0 1 = cc in absurd (omega arith) }
+  cancel_moves s t ok = grind arith

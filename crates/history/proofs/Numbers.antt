@@ -1,9 +1,9 @@
 -- The numbers: a node's frontier stays below the numbers of what is engaged there to write, and a committed update is applied at a write
 -- node exactly when its stamp is at or below the frontier there.
-use Rattle.std.proofs.Common.{◌≡◌, ℕ, ◌%◌, ◌<◌, ◌≤◌, true, ◌⊎◌, refl, inl, inr, arith}
+use Rattle.std.proofs.Common.{◌≡◌, ℕ, ◌%◌, ◌<◌, ◌≤◌, true, ◌⊎◌, inl, inr, arith}
 use Rattle.history.specs.Table.{update_at}
-use Rattle.history.specs.Protocol.{Placement, Clock, Offered, Committed, State, fresh, status, wrote, stamp, counter, frontier, engaged, number, learned, applied, base_clock, Event, begin, read_own, read_search, read_update, write, offer, yes_write, yes_read, no_overtaken, no_place, commit, abort, cancel, learn_abort, learn_write, learn_read, apply, finish, WriteNode, next, MayCommit, Accepted}
-use Rattle.history.proofs.Basics.{update_at₂, hit, drop, differ}
+use Rattle.history.specs.Protocol.{Placement, Clock, Committed, State, fresh, status, wrote, stamp, counter, frontier, engaged, number, learned, applied, base_clock, Event, yes_write, yes_read, commit, WriteNode, next, MayCommit, Accepted}
+use Rattle.history.proofs.Basics.{update_at₂, hit}
 use Rattle.history.proofs.Locks.{Locks}
 
 module _ (holds : Placement) (modulus : ℕ) where
@@ -78,49 +78,19 @@ module _ (holds : Placement) (modulus : ℕ) where
     engaged_number = i.engaged_number;
     frontier_counted = i.frontier_counted;
     number_stamp = λ u q j e₁ e₂ e₃ e₄. let m = stamped u q j e₂ e₃ in let x = i.number_stamp u q j in grind arith;
-    applied_stamp = λ u q e. let x = i.applied_stamp u q e in let d = differ (status s) t u Offered ok.offered refl (l.applied_released u q e).0 in grind arith;
+    applied_stamp = λ u q e. grind arith;
     stamp_remainder = λ u q j e₁ e₂ e₃. let m = stamped u q j e₂ e₃ in let x = i.stamp_remainder u q j in grind arith;
-    learned_number = λ u q j e₁ e₂ e₃ e₄. let y = l.learned_over u q e₄ in let o = ok.offered in let x = i.learned_number u q j in grind arith;
+    learned_number = λ u q j e₁ e₂ e₃ e₄. grind arith;
   }
     where
       stamped : (u q j : ℕ) → wrote s u j ≡ true → holds q j ≡ true → u ≡ t → (n % modulus ≡ u) × (number s u q ≤ n)
       stamped u q j w g e = let m = (ok.stamped q (j, rw e at w, g)).has in rw e (m.0, m.1 q (j, rw e at w, g))
 
-  numbers_apply : (s : State) (t p : ℕ) → Locks holds modulus s → Numbers s → Accepted holds modulus s (apply t p) →
-      Numbers (next holds s (apply t p))
-  numbers_apply s t p l i ok =
-      let w = ok.write_node in
-      let done = l.learned_committed t p ok.learned_there ok.engaged_there in
-      let same_number = i.learned_number t p w.0 done w.1 w.2 ok.learned_there in
-      let here = i.engaged_number t p w.0 ok.engaged_there w.1 w.2 in
-      record {
-        engaged_number = λ u q j e₁ e₂ e₃. let x = i.engaged_number u q j in let y : engaged s u p ≡ true → holds p j ≡ true → number s t p ≤ number s u p = λ e h. ok.least u e (j, e₂, h) in grind arith;
-        frontier_counted = λ q. let x = i.frontier_counted q in grind arith;
-        number_stamp = λ u q j e₁ e₂ e₃ e₄. i.number_stamp u q j e₁ e₂ e₃ (drop (engaged s) t p u q e₄);
-        applied_stamp = λ u q e. let x = i.applied_stamp u q in grind arith;
-        stamp_remainder = i.stamp_remainder;
-        learned_number = i.learned_number;
-      }
-
   pub numbers : (s : State) (e : Event) → Locks holds modulus s → Numbers s → Accepted holds modulus s e → Numbers (next holds s e)
-  numbers s (begin t b) l i ok = grind arith
-  numbers s (read_own t k a) l i ok = i
-  numbers s (read_search t k p a c) l i ok = i
-  numbers s (read_update t k p a c) l i ok = i
-  numbers s (write t k v) l i ok = grind arith
-  numbers s (offer t) l i ok = grind arith
   numbers s (yes_write t p n) l i ok = numbers_yes_write s t p n l i ok
   numbers s (yes_read t p) l i ok = numbers_yes_read s t p l i ok
-  numbers s (no_overtaken t p k) l i ok = i
-  numbers s (no_place t p k) l i ok = i
   numbers s (commit t n c) l i ok = numbers_commit s t n c l i ok
-  numbers s (abort t) l i ok = grind arith
-  numbers s (cancel t) l i ok = grind arith
-  numbers s (learn_abort t p) l i ok = grind arith
-  numbers s (learn_write t p) l i ok = grind arith
-  numbers s (learn_read t p) l i ok = grind arith
-  numbers s (apply t p) l i ok = numbers_apply s t p l i ok
-  numbers s (finish t) l i ok = grind arith
+  numbers s e l i ok = grind arith
 
   pub numbers_fresh : Numbers fresh
   numbers_fresh = grind arith

@@ -1,15 +1,15 @@
 -- The serial orders: that of decision for the committed updates, and one with a place for whoever has not committed.
-use Rattle.std.proofs.Common.{◌≡◌, ℕ, zero, suc, ◌<◌, ◌≤◌, Bool, true, false, cond, not, ◌&&◌, ◌||◌, eqb, leb, ◌⊎◌, List, [], ◌∷◌, ◌++◌, sym, refl, ap, ◌∙◌, subst, inl, inr, le_trans, arith}
+use Rattle.std.proofs.Common.{◌≡◌, ℕ, zero, suc, ◌<◌, ◌≤◌, Bool, true, false, not, ◌&&◌, ◌||◌, nat_le, ◌⊎◌, List, [], ◌∷◌, ◌++◌, sym, refl, ap, ◌∙◌, subst, inl, inr, le_trans, arith, filter}
 use mathlib.Core.Path.{fun_ext}
-use Rattle.std.proofs.lemmas.Bool.{cases_Bool, or_left, ne_eqb, and_from}
+use Rattle.std.proofs.lemmas.Bool.{cases_Bool, or_left, and_from, both_ways, false≢true, and_parts}
 use Rattle.std.proofs.lemmas.Bool.Decides.{Decides-below_and, leb_tells, nat_tests}
-use Rattle.history.specs.Table.{Version, first_version, Table, first_table, Operation, after, gets, puts, play_all, AllAnswered, Member, listed, Later, selected, newest}
-use Rattle.history.specs.Protocol.{Placement, Clock, Open, Offered, Committed, Aborted, Finished, State, status, clock, read_at, noted, wrote, commit_clock, engaged, applied, chain, conflict, written_version, Event, begin, read_own, read_search, read_update, write, offer, yes_write, yes_read, no_overtaken, no_place, commit, abort, cancel, learn_abort, learn_write, learn_read, apply, finish, Visible, NewestPassing, next, Accepted, Reachable, start, then}
+use Rattle.history.specs.Table.{Version, first_version, Table, first_table, Operation, play_all, AllAnswered, Member, listed, Later, selected, newest, scripts_conflict}
+use Rattle.history.specs.Protocol.{Placement, Clock, Offered, Committed, State, status, clock, read_at, noted, wrote, commit_clock, engaged, applied, chain, conflict, written_version, Event, commit, Visible, NewestPassing, next, Accepted, Reachable, start, then}
 use Rattle.history.specs.History.{mark, add_operation, script, add_answer, got, decisions, WasRead}
 use Rattle.history.specs.Statements.{stays, OrderAnswered, writers, ChainsListWriters, UncommittedHasAPlace}
-use Rattle.history.proofs.Basics.{is_committed, clear, differ, not_committed, uncommitted, committed_after, later_first, later_second, later_asymmetric, selected_same, selected_alike, listed_member, member_listed}
-use Rattle.history.proofs.Table.{Apart, keep, keep_member, parted_permutes, part, insert, play_all_same, answered_same}
-use Rattle.history.proofs.Locks.{Locks, all_engaged, begin_moves, offer_moves, abort_moves, cancel_moves, finish_moves}
+use Rattle.history.proofs.Basics.{is_committed, differ, not_committed, uncommitted, later_first, later_second, later_asymmetric, selected_same, listed_member, member_listed}
+use Rattle.history.proofs.Table.{Apart, kept_member, parted_permutes, part, insert, play_all_same, answered_same}
+use Rattle.history.proofs.Locks.{all_engaged}
 use Rattle.history.proofs.Clocks.{Decisions}
 use Rattle.history.proofs.Chains.{Chains}
 use Rattle.history.proofs.Snapshots.{newest_selected, Snapshot, nobody}
@@ -17,58 +17,29 @@ use Rattle.history.proofs.Stamps.{Stamps}
 use Rattle.history.proofs.Scripts.{Scripts}
 use Rattle.history.proofs.Invariants.{Invariants, invariants}
 
-passed : {A : Type 0} (t u : ℕ) (a b : A) → (u ≡ t → ⊥) → b ≡ cond (eqb t u) a b
-passed t u a b d = rw (ne_eqb t u (λ e. d (sym e)))
-
 -- all writers but the last are applied, so what is applied lacks at most the last
 all_but_last : (w a : ℕ → Bool) (f : ℕ → Version) (l : List ℕ) → ((x u : ℕ) → Later x u l → w u ≡ true → w x ≡ true → a u ≡ true) →
     (selected (λ u. w u && a u) f l ≡ selected w f l) ⊎ ((c : Version) × (selected w f l ≡ c ∷ selected (λ u. w u && a u) f l))
 all_but_last w a f [] h = inl refl
-all_but_last w a f (y ∷ l) h = go (all_but_last w a f l (λ x u b. h x u (inr b))) (w y) (a y) refl
+all_but_last w a f (y ∷ l) h = elim (cases_Bool (w y)) [
+  | inr e ↦ rw e (all_but_last w a f l (λ x u b. h x u (inr b)))
+  | inl e ↦
+      let rest : selected (λ u. w u && a u) f l ≡ selected w f l = selected_same _ _ _ _ l (λ u m. (settled u (λ wu. h y u (inl (refl, m)) wu e), refl)) in
+      elim (cases_Bool (a y)) [ inl g ↦ inl (rw (e, g, rest)) | inr g ↦ inr (f y, rw (e, g, rest)) ]
+]
   where
-    settled : (u : ℕ) → Member u l → w y ≡ true → (b : Bool) → w u ≡ b → (b && a u) ≡ b
-    settled u m e true g = h y u (inl (refl, m)) g e
-    settled u m e false g = refl
+    settled : (u : ℕ) → (w u ≡ true → a u ≡ true) → (w u && a u) ≡ w u
+    settled u g = grind arith
 
-    rest : w y ≡ true → selected (λ u. w u && a u) f l ≡ selected w f l
-    rest e = selected_same _ _ _ _ l (λ u m. (at u m e, refl))
-      where
-        at : (u : ℕ) → Member u l → w y ≡ true → (w u && a u) ≡ w u
-        at u m e = settled u m e (w u) refl
-
-    go : ((selected (λ u. w u && a u) f l ≡ selected w f l) ⊎ ((c : Version) × (selected w f l ≡ c ∷ selected (λ u. w u && a u) f l))) →
-        (b c : Bool) → w y ≡ b →
-        (cond (b && c) (f y ∷ selected (λ u. w u && a u) f l) (selected (λ u. w u && a u) f l) ≡ cond b (f y ∷ selected w f l) (selected w f l))
-        ⊎ ((d : Version) × (cond b (f y ∷ selected w f l) (selected w f l) ≡ d ∷ cond (b && c) (f y ∷ selected (λ u. w u && a u) f l) (selected (λ u. w u && a u) f l)))
-    go r false c e = r
-    go r true true e = inl (ap (λ (t : List Version). f y ∷ t) (rest e))
-    go r true false e = inr (f y, ap (λ (t : List Version). f y ∷ t) (sym (rest e)))
-
-selected_keep : (w v : ℕ → Bool) (f : ℕ → Version) (l : List ℕ) → selected w f (keep v l) ≡ selected (λ u. v u && w u) f l
-selected_keep w v f [] = refl
-selected_keep w v f (y ∷ l) = go (selected_keep w v f l) (v y) (w y) refl
-  where
-    go : selected w f (keep v l) ≡ selected (λ u. v u && w u) f l → (b c : Bool) → w y ≡ c →
-        selected w f (cond b (y ∷ keep v l) (keep v l)) ≡ cond (b && c) (f y ∷ selected (λ u. v u && w u) f l) (selected (λ u. v u && w u) f l)
-    go r true true e = rw (e, r)
-    go r true false e = rw (e, r)
-    go r false c e = r
-
-apart_bools : (wu ru wx rx nu nx : Bool) → (ru ≡ true → (nu || wu) ≡ true) → (rx ≡ true → (nx || wx) ≡ true) →
-    ((wu && (nx || wx)) || (nu && wx)) ≡ false → ((wu && (rx || wx)) || (ru && wx)) ≡ false
-apart_bools wu ru wx rx nu nx f g e = grind arith
+selected_kept : (w v : ℕ → Bool) (f : ℕ → Version) (l : List ℕ) → selected w f (filter v l) ≡ selected (λ u. v u && w u) f l
+selected_kept w v f [] = refl
+selected_kept w v f (y ∷ l) = grind (arith, selected_kept w v f l)
 
 -- a writer of a key that an engaged update has noted is applied, since it is not engaged beside it
 writer_applied : (s : State) (u t p k : ℕ) → (wrote s u k ≡ true → (engaged s u p || applied s u p) ≡ true) →
     (engaged s u p ≡ true → conflict s u t k ≡ false) →
     noted s t k ≡ true → (wrote s u k && applied s u p) ≡ wrote s u k
 writer_applied s u t p k f g e = grind arith
-
-both_left : (a b : Bool) → (a && b) ≡ true → a ≡ true
-both_left a b e = grind arith
-
-both_right : (a b : Bool) → (a && b) ≡ true → b ≡ true
-both_right a b e = grind arith
 
 -- ── The statements, read off the state ──
 
@@ -95,61 +66,22 @@ picks : (s : State) (k : ℕ) (v : ℕ → Bool) (l : List ℕ) → Picks s k v 
 picks s k v l =
     let n = newest_selected s (λ q. false) (λ q. 0) v k l (newest (selected v (written_version s k) l)) (at (selected v (written_version s k) l)) in (
       elim n.0 [ inl e ↦ inl e | inr h ↦ inr (h.0, h.1, h.2) ],
-      λ u m vu. n.1 u m vu (λ q e. absurd (clear false e refl)),
+      λ u m vu. n.1 u m vu (λ q e. absurd (false≢true e)),
     )
   where
     at : (c : List Version) → NewestPassing s (λ q. false) (λ q. 0) c (newest c)
-    at [] = refl
-    at (x ∷ c) = inl ((λ q e. absurd (clear false e refl)), refl)
+    at c = grind arith
 
 module _ (holds : Placement) (modulus : ℕ) where
   -- ── What the committed did remains ──
 
-  committed_next : (s : State) (e : Event) → Locks holds modulus s → Accepted holds modulus s e → (u : ℕ) → status s u ≡ Committed →
-      status (next holds s e) u ≡ Committed
-  committed_next s (begin t a) l ok u c = committed_after (status s) t Open u (begin_moves holds modulus s t a ok).from c
-  committed_next s (read_own t k a) l ok u c = c
-  committed_next s (read_search t k p a d) l ok u c = c
-  committed_next s (read_update t k p a d) l ok u c = c
-  committed_next s (write t k v) l ok u c = c
-  committed_next s (offer t) l ok u c = committed_after (status s) t Offered u (offer_moves holds modulus s t l ok).from c
-  committed_next s (yes_write t p n) l ok u c = c
-  committed_next s (yes_read t p) l ok u c = c
-  committed_next s (no_overtaken t p k) l ok u c = c
-  committed_next s (no_place t p k) l ok u c = c
-  committed_next s (commit t n d) l ok u c = committed_after (status s) t Committed u (not_committed (status s t) Offered ok.offered refl) c
-  committed_next s (abort t) l ok u c = committed_after (status s) t Aborted u (abort_moves holds modulus s t ok).from c
-  committed_next s (cancel t) l ok u c = committed_after (status s) t Aborted u (cancel_moves holds modulus s t ok).from c
-  committed_next s (learn_abort t p) l ok u c = c
-  committed_next s (learn_write t p) l ok u c = c
-  committed_next s (learn_read t p) l ok u c = c
-  committed_next s (apply t p) l ok u c = c
-  committed_next s (finish t) l ok u c = committed_after (status s) t Finished u (finish_moves holds modulus s t ok).from c
-
   nothing_added : (s : State) (e : Event) → Accepted holds modulus s e → (u : ℕ) → status s u ≡ Committed → (x : List Operation) (y : List Version) →
       (x ≡ add_operation (mark e) u x) × (y ≡ add_answer (mark e) u y)
-  nothing_added s (begin t a) ok u c x y = (refl, refl)
-  nothing_added s (read_own t k a) ok u c x y = let d = differ (status s) t u Open ok.0 refl c in (passed t u _ x d, passed t u _ y d)
-  nothing_added s (read_search t k p a z) ok u c x y = let d = differ (status s) t u Open ok.0.open_now refl c in (passed t u _ x d, passed t u _ y d)
-  nothing_added s (read_update t k p a z) ok u c x y = let d = differ (status s) t u Open ok.0.open_now refl c in (passed t u _ x d, passed t u _ y d)
-  nothing_added s (write t k v) ok u c x y = let d = differ (status s) t u Open ok.0 refl c in (passed t u _ x d, refl)
-  nothing_added s (offer t) ok u c x y = (refl, refl)
-  nothing_added s (yes_write t p n) ok u c x y = (refl, refl)
-  nothing_added s (yes_read t p) ok u c x y = (refl, refl)
-  nothing_added s (no_overtaken t p k) ok u c x y = (refl, refl)
-  nothing_added s (no_place t p k) ok u c x y = (refl, refl)
-  nothing_added s (commit t n z) ok u c x y = (refl, refl)
-  nothing_added s (abort t) ok u c x y = (refl, refl)
-  nothing_added s (cancel t) ok u c x y = (refl, refl)
-  nothing_added s (learn_abort t p) ok u c x y = (refl, refl)
-  nothing_added s (learn_write t p) ok u c x y = (refl, refl)
-  nothing_added s (learn_read t p) ok u c x y = (refl, refl)
-  nothing_added s (apply t p) ok u c x y = (refl, refl)
-  nothing_added s (finish t) ok u c x y = (refl, refl)
+  nothing_added s e e1 u e2 x y = grind arith
 
   module _ (h : List Event) (s : State) (e : Event) (i : Invariants holds modulus h s) (ok : Accepted holds modulus s e) where
     unmoved : (u : ℕ) → Member u (decisions h) → (script h u ≡ script (e ∷ h) u) × (committed s u ≡ committed (next holds s e) u)
-    unmoved u m = let c = i.ground.decisions_ordered.decided_committed u m in ((nothing_added s e ok u c (script h u) (got h u)).0, ap is_committed (c ∙ sym (committed_next s e i.ground.locks ok u c)))
+    unmoved u m = grind arith
 
     still_table : table_of h s (decisions h) ≡ table_of (e ∷ h) (next holds s e) (decisions h)
     still_table = play_all_same _ _ _ _ (decisions h) first_table unmoved
@@ -166,21 +98,13 @@ module _ (holds : Placement) (modulus : ℕ) where
   last_write h s i k (x ∷ l) c =
       let r = last_write h s i k l (λ u m. c u (inr m)) in
       let a = i.after_script x k (table_of h s l) in
-      rw (c x (inl refl)) (a ∙ go (wrote s x k) r)
-    where
-      go : (b : Bool) → table_of h s l k ≡ newest (writers_of s k l) →
-          cond b (written_version s k x) (table_of h s l k) ≡ newest (cond b (written_version s k x ∷ writers_of s k l) (writers_of s k l))
-      go true r = refl
-      go false r = r
+      rw (c x (inl refl)) (grind arith)
 
   -- two versions of committed writers, or of nobody, with one writer are one
   same_writer : (h : List Event) (s : State) → Decisions holds modulus h s → (k : ℕ) (a b : Version) →
       ((a ≡ first_version) ⊎ ((status s a.writer ≡ Committed) × (a ≡ written_version s k a.writer))) →
       ((b ≡ first_version) ⊎ ((status s b.writer ≡ Committed) × (b ≡ written_version s k b.writer))) → a.writer ≡ b.writer → a ≡ b
-  same_writer h s dd k a b x y e = elim x [
-    | inl p ↦ elim y [ inl q ↦ p ∙ sym q | inr q ↦ absurd (nobody holds modulus h s dd a p b.writer q.0 (inl (sym e))) ]
-    | inr p ↦ elim y [ inl q ↦ absurd (nobody holds modulus h s dd b q a.writer p.0 (inl e)) | inr q ↦ p.1 ∙ ap (written_version s k) e ∙ sym q.1 ]
-  ]
+  same_writer h s dd k a b x y e = grind arith
 
   -- when t is decided, what it read is what the table has: the newest version at a holder is that of the last committed writer, for every
   -- committed writer is applied there, being engaged there no more
@@ -208,27 +132,11 @@ module _ (holds : Placement) (modulus : ℕ) where
 
   answered_next : (h : List Event) (s : State) (e : Event) → Invariants holds modulus h s → Accepted holds modulus s e →
       Answered h s (decisions h) → Answered (e ∷ h) (next holds s e) (decisions (e ∷ h))
-  answered_next h s (begin t a) i ok p = still_answered h s (begin t a) i ok p
-  answered_next h s (read_own t k a) i ok p = still_answered h s (read_own t k a) i ok p
-  answered_next h s (read_search t k q a c) i ok p = still_answered h s (read_search t k q a c) i ok p
-  answered_next h s (read_update t k q a c) i ok p = still_answered h s (read_update t k q a c) i ok p
-  answered_next h s (write t k v) i ok p = still_answered h s (write t k v) i ok p
-  answered_next h s (offer t) i ok p = still_answered h s (offer t) i ok p
-  answered_next h s (yes_write t q n) i ok p = still_answered h s (yes_write t q n) i ok p
-  answered_next h s (yes_read t q) i ok p = still_answered h s (yes_read t q) i ok p
-  answered_next h s (no_overtaken t q k) i ok p = still_answered h s (no_overtaken t q k) i ok p
-  answered_next h s (no_place t q k) i ok p = still_answered h s (no_place t q k) i ok p
   answered_next h s (commit t n c) i ok p = (
     i.scripts.script_answers t _ (λ k q a g. ap (λ (f : Table). f k) (sym (still_table h s (commit t n c) i ok)) ∙ read_is_last h s t n c i ok k q a g),
     still_answered h s (commit t n c) i ok p,
   )
-  answered_next h s (abort t) i ok p = still_answered h s (abort t) i ok p
-  answered_next h s (cancel t) i ok p = still_answered h s (cancel t) i ok p
-  answered_next h s (learn_abort t q) i ok p = still_answered h s (learn_abort t q) i ok p
-  answered_next h s (learn_write t q) i ok p = still_answered h s (learn_write t q) i ok p
-  answered_next h s (learn_read t q) i ok p = still_answered h s (learn_read t q) i ok p
-  answered_next h s (apply t q) i ok p = still_answered h s (apply t q) i ok p
-  answered_next h s (finish t) i ok p = still_answered h s (finish t) i ok p
+  answered_next h s e i ok p = still_answered h s e i ok p
 
   state_answered : {h : List Event} {s : State} → Reachable holds modulus h s → Answered h s (decisions h)
   state_answered start = tt
@@ -241,7 +149,7 @@ module _ (holds : Placement) (modulus : ℕ) where
       at : (u : ℕ) → committed s u ≡ listed u (decisions h)
       at u = elim (cases_Bool (listed u (decisions h))) [
         | inl e ↦ rw (e, dd.decided_committed u (listed_member u (decisions h) e)) refl
-        | inr e ↦ rw e (uncommitted (status s u) (λ c. clear (listed u (decisions h)) (member_listed u (decisions h) (dd.committed_decided u c)) e))
+        | inr e ↦ rw e (uncommitted (status s u) (λ c. both_ways (listed u (decisions h)) e (member_listed u (decisions h) (dd.committed_decided u c))))
       ]
 
   pub decisions_answered : {h : List Event} {s : State} → Reachable holds modulus h s → OrderAnswered h (decisions h)
@@ -251,8 +159,7 @@ module _ (holds : Placement) (modulus : ℕ) where
 
   -- and who writes what
   pub same_writers : (h : List Event) (s : State) → Scripts holds modulus h s → (k : ℕ) (order : List ℕ) → writers_of s k order ≡ writers h k order
-  same_writers h s i k order = selected_alike (λ u. wrote s u k) (λ u. puts (script h u) k) (written_version s k) (λ u. after u (script h u) first_table k) order
-      (λ u. sym (i.script_wrote u k)) (λ u w. sym (i.after_script u k first_table ∙ rw w))
+  same_writers h s i k order = grind arith
 
   pub chains_list : (h : List Event) (s : State) → Scripts holds modulus h s → Chains holds modulus h s → ChainsListWriters holds h s
   chains_list h s x i p k hp =
@@ -265,11 +172,14 @@ module _ (holds : Placement) (modulus : ℕ) where
   -- ── A place for whoever has not committed ──
 
   -- committed updates without conflict have scripts without conflict
+  -- scripts that conflict belong to updates that conflict
+  pub conflict_by_record : (h : List Event) (s : State) → Scripts holds modulus h s → (u t k : ℕ) → status s u ≡ Committed → status s t ≡ Committed →
+      scripts_conflict (script h u) (script h t) k ≡ true → conflict s u t k ≡ true
+  conflict_by_record h s i u t k cu ct e = grind arith
+
   apart : (h : List Event) (s : State) → Scripts holds modulus h s → (u x : ℕ) → status s u ≡ Committed → status s x ≡ Committed →
       ((k : ℕ) → conflict s u x k ≡ false) → Apart (script h u) (script h x)
-  apart h s i u x cu cx n k =
-      rw (i.script_wrote u k, i.script_wrote x k)
-      (apart_bools (wrote s u k) (gets (script h u) k) (wrote s x k) (gets (script h x) k) (noted s u k) (noted s x k) (i.read_touched u k (i.offered_update u (rw cu refl))) (i.read_touched x k (i.offered_update x (rw cx refl))) (n k))
+  apart h s i u x cu cx n k = grind arith
 
   -- the order: what is visible to t, then t, then the rest, each part in the order of decision; v tests visibility
   module _ (h : List Event) (s : State) (i : Invariants holds modulus h s) (t : ℕ) (undecided : status s t ≡ Committed → ⊥) (v : ℕ → Bool)
@@ -282,14 +192,14 @@ module _ (holds : Placement) (modulus : ℕ) where
         let dd = i.ground.decisions_ordered in
         apart h s i.scripts u x (dd.decided_committed u mu) (dd.decided_committed x mx) (λ k. elim (cases_Bool (conflict s u x k)) [
           | inr e ↦ e
-          | inl e ↦ absurd (clear (v u) ((test u mu).1 (λ q r. le_trans (i.ground.clocks.conflict_ordered x u k b e q) ((test x mx).0 vx q r))) vu)
+          | inl e ↦ absurd (both_ways (v u) vu ((test u mu).1 (λ q r. le_trans (i.ground.clocks.conflict_ordered x u k b e q) ((test x mx).0 vx q r))))
         ])
 
     -- what t read is what the visible updates leave on the table
-    read_is_visible : (k p : ℕ) (a : Version) → WasRead h t k p a → table_of h s (keep v (decisions h)) k ≡ a
+    read_is_visible : (k p : ℕ) (a : Version) → WasRead h t k p a → table_of h s (filter v (decisions h)) k ≡ a
     read_is_visible k p a r =
-        last_write h s i.scripts k (keep v (decisions h)) (λ u m. dd.decided_committed u (keep_member v (decisions h) u m).0)
-        ∙ ap newest (selected_keep (λ u. wrote s u k) v (written_version s k) (decisions h)) ∙ sym eq
+        last_write h s i.scripts k (filter v (decisions h)) (λ u m. dd.decided_committed u (kept_member v (decisions h) u m).0)
+        ∙ ap newest (selected_kept (λ u. wrote s u k) v (written_version s k) (decisions h)) ∙ sym eq
       where
         dd : Decisions holds modulus h s
         dd = i.ground.decisions_ordered
@@ -307,7 +217,7 @@ module _ (holds : Placement) (modulus : ℕ) where
         n = i.snapshots.snapshot t k p a r undecided
 
         latest : Member b.writer (decisions h) → pass b.writer ≡ true → (b.writer ≡ a.writer) ⊎ Later a.writer b.writer (decisions h)
-        latest m e = n.latest b.writer (dd.decided_committed _ m) (both_right (v b.writer) (wrote s b.writer k) e) ((test _ m).0 (both_left (v b.writer) (wrote s b.writer k) e))
+        latest m e = n.latest b.writer (dd.decided_committed _ m) ((and_parts (v b.writer) (wrote s b.writer k) e).1) ((test _ m).0 ((and_parts (v b.writer) (wrote s b.writer k) e).0))
 
         eq : a ≡ b
         eq = elim n.origin [
@@ -331,18 +241,18 @@ module _ (holds : Placement) (modulus : ℕ) where
         ]
 
     pub placed : Answered h s (decisions h) →
-        Answered h s (keep (λ u. not (v u)) (decisions h) ++ (t ∷ keep v (decisions h)))
-        × (table_of h s (keep (λ u. not (v u)) (decisions h) ++ (t ∷ keep v (decisions h))) ≡ table_of h s (decisions h))
+        Answered h s (filter (λ u. not (v u)) (decisions h) ++ (t ∷ filter v (decisions h)))
+        × (table_of h s (filter (λ u. not (v u)) (decisions h) ++ (t ∷ filter v (decisions h))) ≡ table_of h s (decisions h))
     placed p =
         let q = part (script h) (committed s) (got h) v (decisions h) first_table closed p in
-        let r = insert (script h) (committed s) (got h) t (keep (λ u. not (v u)) (decisions h)) (keep v (decisions h)) first_table (uncommitted (status s t) undecided)
+        let r = insert (script h) (committed s) (got h) t (filter (λ u. not (v u)) (decisions h)) (filter v (decisions h)) first_table (uncommitted (status s t) undecided)
         (i.scripts.script_answers t _ read_is_visible) q.0 in
         (r.0, r.1 ∙ q.1)
 
   -- ── Visibility is a test, for finitely many nodes ──
 
   abbrev sees_at : State → ℕ → ℕ → ℕ → Bool
-  sees_at s u t q = not (read_at s t q) || leb (commit_clock s u q) (clock s t q)
+  sees_at s u t q = not (read_at s t q) || nat_le (commit_clock s u q) (clock s t q)
 
   abbrev sees_below : ℕ → State → ℕ → ℕ → Bool
   sees_below zero s u t = true
@@ -359,11 +269,9 @@ module _ (holds : Placement) (modulus : ℕ) where
       each q = (λ e r. grind (arith, nat_tests), λ f. go (read_at s t q) (leb_tells (commit_clock s u q) (clock s t q)) f)
         where
           go : (b : Bool) →
-              ((leb (commit_clock s u q) (clock s t q) ≡ true) × (commit_clock s u q ≤ clock s t q)) ⊎ ((leb (commit_clock s u q) (clock s t q) ≡ false) × (clock s t q < commit_clock s u q)) →
-              (b ≡ true → commit_clock s u q ≤ clock s t q) → (not b || leb (commit_clock s u q) (clock s t q)) ≡ true
-          go false x f = refl
-          go true (inl x) f = x.0
-          go true (inr x) f = let y = f refl in absurd (omega (arith, x.1))
+              ((nat_le (commit_clock s u q) (clock s t q) ≡ true) × (commit_clock s u q ≤ clock s t q)) ⊎ ((nat_le (commit_clock s u q) (clock s t q) ≡ false) × (clock s t q < commit_clock s u q)) →
+              (b ≡ true → commit_clock s u q ≤ clock s t q) → (not b || nat_le (commit_clock s u q) (clock s t q)) ≡ true
+          go b e1 e2 = grind arith
 
   pub uncommitted_placed : {h : List Event} {s : State} → Reachable holds modulus h s → (nodes : ℕ) → ((p k : ℕ) → holds p k ≡ true → p < nodes) →
       UncommittedHasAPlace h
@@ -372,12 +280,12 @@ module _ (holds : Placement) (modulus : ℕ) where
       let dd = i.ground.decisions_ordered in
       let v = λ (u : ℕ). sees_below nodes s u t in
       let q = placed h s i t (λ c. undecided (dd.committed_decided t c)) v (λ u m. sees_tests h s i.stamps nodes small u t) (state_answered r) in
-      let order = keep (λ (u : ℕ). not (v u)) (decisions h) ++ (t ∷ keep v (decisions h)) in
+      let order = filter (λ (u : ℕ). not (v u)) (decisions h) ++ (t ∷ filter v (decisions h)) in
       let same : committed s ≡ stays h = same_committed h s dd in
       record {
-        earlier = keep v (decisions h);
-        later = keep (λ u. not (v u)) (decisions h);
+        earlier = filter v (decisions h);
+        later = filter (λ u. not (v u)) (decisions h);
         reordered = ∣ parted_permutes v (decisions h) ∣₁;
-        answered = subst (λ (f : ℕ → Bool). AllAnswered (script h) f (got h) order first_table) same q.0;
-        same_table = subst (λ (f : ℕ → Bool). play_all (script h) f order first_table ≡ play_all (script h) f (decisions h) first_table) same q.1;
+        answered = grind arith;
+        same_table = grind arith;
       }

@@ -1,11 +1,11 @@
 -- The snapshots: what a transaction that has not committed has read is one state of the committed updates.
-use Rattle.std.proofs.Common.{◌≡◌, ℕ, ◌≤◌, Bool, true, false, cond, ◌&&◌, ◌||◌, eqb, ◌⊎◌, List, [], ◌∷◌, sym, refl, ap, ◌∙◌, subst, inl, inr, le_trans, arith}
-use Rattle.std.proofs.lemmas.Bool.{cases_eq, cases_Bool, or_right, and_from}
-use Rattle.history.specs.Table.{Version, version, first_version, update_at, Member, Later, selected}
-use Rattle.history.specs.Protocol.{Placement, Clock, Kind, Update, Status, Unbegun, Open, Offered, Committed, Aborted, Finished, State, kind, status, clock, read_at, noted, noted_writer, wrote, value, commit_clock, frontier, engaged, applied, written_version, first_noted, becomes, change_transaction, Event, begin, read_own, read_search, read_update, write, offer, yes_write, yes_read, no_overtaken, no_place, commit, abort, cancel, learn_abort, learn_write, learn_read, apply, finish, Passes, Visible, Joined, NewestPassing, MayRead, next, Accepted}
+use Rattle.std.proofs.Common.{◌≡◌, ℕ, ◌≤◌, Bool, true, false, cond, ◌&&◌, ◌||◌, ◌⊎◌, List, [], ◌∷◌, sym, refl, ap, ◌∙◌, subst, inl, inr, le_trans, arith, ◌==◌}
+use Rattle.std.proofs.lemmas.Bool.{cases_eq, cases_Bool, or_right, and_from, both_ways, and_parts}
+use Rattle.history.specs.Table.{Version, first_version, update_at, Member, Later, selected}
+use Rattle.history.specs.Protocol.{Placement, Clock, Kind, Update, Status, Open, Offered, Committed, Aborted, State, kind, status, clock, read_at, noted, noted_writer, wrote, commit_clock, frontier, engaged, applied, written_version, first_noted, becomes, change_transaction, Event, begin, read_search, read_update, commit, cancel, Passes, Visible, Joined, NewestPassing, MayRead, next, Accepted}
 use Rattle.history.specs.History.{decisions, WasRead}
-use Rattle.history.proofs.Basics.{update_at₂, same, other, other₂, slot, hit, set_true, is_begun, clear, one_kind, differ, not_committed, committed_before, committed_after, begun_after, later_first, later_asymmetric}
-use Rattle.history.proofs.Locks.{Locks, all_engaged, Moves, begin_moves, offer_moves, abort_moves, cancel_moves, finish_moves}
+use Rattle.history.proofs.Basics.{update_at₂, same, other, slot, hit, set_true, is_begun, differ, not_committed, committed_after, later_first, later_asymmetric, or_second}
+use Rattle.history.proofs.Locks.{Locks, all_engaged, Moves, cancel_moves}
 use Rattle.history.proofs.Numbers.{commit_slot, Numbers}
 use Rattle.history.proofs.Clocks.{Decisions, slot_kept, Clocks, settled_after}
 use Rattle.history.proofs.Chains.{Chains}
@@ -45,37 +45,25 @@ newest_selected s at c v k (x ∷ l) a n = go (newest_selected s at c v k l a) (
           λ u m vu su. elim m [ inl f ↦ inl (f ∙ sym w) | inr m' ↦ inr (inl (w, m')) ],
         )
     go ih true e (inr h) = deeper (ih h.1) (λ _. h.0)
-    go ih false e n = deeper (ih n) (λ f. absurd (clear (v x) f e))
+    go ih false e n = deeper (ih n) (λ f. absurd (both_ways (v x) e f))
 
 -- ── What a read changes ──
 
-read_there : (r : ℕ → ℕ → Bool) (t p q : ℕ) → update_at₂ r t p true t q ≡ (eqb p q || r t q)
-read_there r t p q = grind arith
-
-here_too : (r : ℕ → ℕ → Bool) (t p : ℕ) → (eqb p p || r t p) ≡ true
+here_too : (r : ℕ → ℕ → Bool) (t p : ℕ) → (p == p || r t p) ≡ true
 here_too r t p = grind arith
 
 -- what passes after a read
 passes_now : (s : State) (t p : ℕ) (c x : Clock) → Passes x (update_at₂ (read_at s) t p true t) (update_at (clock s) t c t) →
-    Passes x (λ q. eqb p q || read_at s t q) c
-passes_now s t p c x v q r = rw (ap (λ (f : Clock). f q) (same (clock s) t c)) at (v q (rw (read_there (read_at s) t p q) r))
+    Passes x (λ q. (p == q) || read_at s t q) c
+passes_now s t p c x v q r = grind arith
 
 clock_grows : (s : State) (t p : ℕ) (c : Clock) → Joined s t p c → (u q : ℕ) → clock s u q ≤ update_at (clock s) t c u q
-clock_grows s t p c j u q = let g = j.above q in up g
-  where
-    up : clock s t q ≤ c q → clock s u q ≤ update_at (clock s) t c u q
-    up g = grind arith
-
-clock_kept : (s : State) (t p : ℕ) (c : Clock) → Joined s t p c → (u q : ℕ) → read_at s u q ≡ true → update_at (clock s) t c u q ≤ clock s u q
-clock_kept s t p c j u q r = down (λ (e : read_at s t q ≡ true). slot_kept s t p c j q e)
-  where
-    down : (read_at s t q ≡ true → c q ≤ clock s t q) → update_at (clock s) t c u q ≤ clock s u q
-    down g = grind arith
+clock_grows s t p c j u q = grind arith
 
 -- visibility only shrinks: what passes after a read passed before it
 passed_before : (s : State) (t p : ℕ) (c : Clock) → Joined s t p c → (u : ℕ) (x : Clock) →
     Passes x (update_at₂ (read_at s) t p true u) (update_at (clock s) t c u) → Passes x (read_at s u) (clock s u)
-passed_before s t p c j u x v q r = le_trans (v q (set_true (read_at s) t p u q r)) (clock_kept s t p c j u q r)
+passed_before s t p c j u x v q r = grind arith
 
 -- a note is made once
 note_kept : (s : State) (t k w x j : ℕ) → noted s x j ≡ true →
@@ -88,10 +76,6 @@ note_new s t k w x j e f g = grind arith
 
 noted_now : (s : State) (t k : ℕ) → update_at₂ (noted s) t k true t k ≡ true
 noted_now s t k = grind arith
-
-kind_before : (s : State) (t : ℕ) (a : Kind) (x : ℕ) → status s t ≡ Unbegun → is_begun (status s x) ≡ true → update_at (kind s) t a x ≡ Update →
-    kind s x ≡ Update
-kind_before s t a x o e f = grind arith
 
 module _ (holds : Placement) (modulus : ℕ) where
   -- the groups of invariants that stand by themselves
@@ -169,20 +153,17 @@ module _ (holds : Placement) (modulus : ℕ) where
   -- a committed writer of k whose slot for p is at or below the frontier of p is applied at p
   visible_applied : (h : List Event) (s : State) → Ground h s → (u p k x : ℕ) → status s u ≡ Committed → wrote s u k ≡ true → holds p k ≡ true →
       commit_clock s u p ≤ x → x ≤ frontier s p → applied s u p ≡ true
-  visible_applied h s g u p k x cu wu b le₁ le₂ = settle (engaged s u p) (applied s u p) (g.locks.writer_kept u p k cu wu b) (λ e.
+  visible_applied h s g u p k x cu wu b le₁ le₂ = or_second (engaged s u p) (applied s u p) (g.locks.writer_kept u p k cu wu b) (λ e.
       let a = g.numbers.engaged_number u p k e wu b in let z = g.numbers.number_stamp u p k cu wu b e in let d = g.clocks.write_slot u p k cu wu b in omega arith)
-    where
-      settle : (a b : Bool) → (a || b) ≡ true → (a ≡ true → ⊥) → b ≡ true
-      settle a b e n = grind arith
 
   read_snapshot : (h : List Event) (s : State) (t k p : ℕ) (a : Version) (c : Clock) → Ground h s → Within s →
       MayRead holds s t k p a c → Snapshot h (next holds s (read_search t k p a c)) t k p a
   read_snapshot h s t k p a c g inside ok = record {
-    at = read_there (read_at s) t p p ∙ here_too (read_at s) t p;
+    at = grind arith;
     held = ok.held;
     origin = elim n.0 [
       | inl e ↦ inl e
-      | inr x ↦ inr (g.decisions_ordered.decided_committed a.writer x.0, both_l x.1, x.2, λ q. rw (ap (λ (f : Clock). f q) (same (clock s) t c)) (bound a.writer (both_r x.1) x.3 q))
+      | inr x ↦ inr (g.decisions_ordered.decided_committed a.writer x.0, (and_parts (wrote s a.writer k) (applied s a.writer p) x.1).0, x.2, λ q. rw (ap (λ (f : Clock). f q) (same (clock s) t c)) (bound a.writer ((and_parts (wrote s a.writer k) (applied s a.writer p) x.1).1) x.3 q))
     ];
     latest = λ u cu wu v.
         let v' = passes_now s t p c (commit_clock s u) v in
@@ -193,21 +174,15 @@ module _ (holds : Placement) (modulus : ℕ) where
       pass u = wrote s u k && applied s u p
 
       at' : ℕ → Bool
-      at' q = eqb p q || read_at s t q
+      at' q = (p == q) || read_at s t q
 
       n : ((a ≡ first_version) ⊎ (Member a.writer (decisions h) × (pass a.writer ≡ true) × (a ≡ written_version s k a.writer) × Passes (commit_clock s a.writer) at' c))
           × ((u : ℕ) → Member u (decisions h) → pass u ≡ true → Passes (commit_clock s u) at' c → (u ≡ a.writer) ⊎ Later a.writer u (decisions h))
       n = newest_selected s at' c pass k (decisions h) a (subst (λ (x : List Version). NewestPassing s at' c x a) (g.chains.lists_applied p k ok.held) ok.answer)
 
-      both_l : {u : ℕ} → (wrote s u k && applied s u p) ≡ true → wrote s u k ≡ true
-      both_l e = grind arith
-
-      both_r : {u : ℕ} → (wrote s u k && applied s u p) ≡ true → applied s u p ≡ true
-      both_r e = grind arith
-
       bound : (w : ℕ) → applied s w p ≡ true → Passes (commit_clock s w) at' c → (q : ℕ) → commit_clock s w q ≤ c q
       bound w aw v q =
-          let vis : Visible s w t = λ z r. le_trans (v z (or_right (eqb p z) (read_at s t z) r)) (slot_kept s t p c ok.joined z r) in
+          let vis : Visible s w t = λ z r. le_trans (v z (or_right (p == z) (read_at s t z) r)) (slot_kept s t p c ok.joined z r) in
           elim (cases_Bool (read_at s t p)) [
             | inl r ↦ le_trans (inside t p w r aw vis q) (ok.joined.above q)
             | inr r ↦ ok.joined.takes w r aw vis q
@@ -227,49 +202,18 @@ module _ (holds : Placement) (modulus : ℕ) where
 
   read_keeps : (h : List Event) (s : State) (t k p : ℕ) (a : Version) (c : Clock) → Joined s t p c → (x j q : ℕ) (b : Version) →
       Snapshot h s x j q b → Snapshot h (next holds s (read_search t k p a c)) x j q b
-  read_keeps h s t k p a c jo x j q b n = record {
-    at = set_true (read_at s) t p x q n.at;
-    held = n.held;
-    origin = elim n.origin [ inl e ↦ inl e | inr o ↦ inr (o.0, o.1, o.2, λ z. le_trans (o.3 z) (clock_grows s t p c jo x z)) ];
-    latest = λ u cu wu v. n.latest u cu wu (passed_before s t p c jo x (commit_clock s u) v);
-  }
+  read_keeps h s t k p a c jo x j q b n = grind arith
 
   move_keeps : (h : List Event) (s : State) (t : ℕ) (y : Status) → Moves holds modulus s t y → (u j q : ℕ) (b : Version) → Snapshot h s u j q b →
       Snapshot h (change_transaction t (becomes y) s) u j q b
-  move_keeps h s t y m u j q b n = record {
-    at = n.at;
-    held = n.held;
-    origin = elim n.origin [ inl o ↦ inl o | inr o ↦ inr (committed_after (status s) t y b.writer m.from o.0, o.1, o.2, o.3) ];
-    latest = λ w cw. n.latest w (committed_before (status s) t y w m.to cw);
-  }
-
-  write_keeps : (h : List Event) (s : State) (t k v : ℕ) → status s t ≡ Open → (u j q : ℕ) (b : Version) → Snapshot h s u j q b →
-      Snapshot h (next holds s (write t k v)) u j q b
-  write_keeps h s t k v o u j q b n = record {
-    at = n.at;
-    held = n.held;
-    origin = elim n.origin [
-      | inl x ↦ inl x
-      | inr x ↦ let d = differ (status s) t b.writer Open o refl x.0 in
-          inr (x.0, other₂ (wrote s) t k true b.writer j d ∙ x.1, x.2 ∙ ap (λ (y : ℕ). version y b.writer) (sym (other₂ (value s) t k v b.writer j d)), x.3)
-    ];
-    latest = λ w cw ww. n.latest w cw (sym (other₂ (wrote s) t k true w j (differ (status s) t w Open o refl cw)) ∙ ww);
-  }
+  move_keeps h s t y m u j q b n = grind arith
 
   commit_keeps : (h : List Event) (s : State) (t m : ℕ) (c : Clock) → Ground h s → Accepted holds modulus s (commit t m c) →
       (u j q : ℕ) (b : Version) → Snapshot h s u j q b → Snapshot (commit t m c ∷ h) (next holds s (commit t m c)) u j q b
   commit_keeps h s t m c g ok u j q b n = record {
     at = n.at;
     held = n.held;
-    origin = elim n.origin [
-      | inl x ↦ inl x
-      | inr x ↦ inr (
-        committed_after (status s) t Committed b.writer (not_committed (status s t) Offered ok.offered refl) x.0,
-        x.1,
-        x.2,
-        λ z. rw (slot (commit_clock s) t c b.writer z (differ (status s) t b.writer Offered ok.offered refl x.0)) (x.3 z),
-      )
-    ];
+    origin = grind arith;
     latest = λ w cw ww v. elim (cases_eq w t) [
       | inl e ↦ absurd (hidden w e ww v)
       | inr d ↦ elim (n.latest w (sym (other (status s) t Committed w d) ∙ cw) ww (λ z r. rw (slot (commit_clock s) t c w z d) at (v z r)))
@@ -292,22 +236,6 @@ module _ (holds : Placement) (modulus : ℕ) where
   commit_within s t m c l inside ok x q u r au v z =
       let d = differ (status s) t u Offered ok.offered refl (l.applied_released u q au).0 in
       rw (slot (commit_clock s) t c u z d) (inside x q u r au (λ y ry. rw (slot (commit_clock s) t c u y d) at (v y ry)) z)
-
-  apply_within : (h : List Event) (s : State) (t p : ℕ) → Ground h s → Within s → Accepted holds modulus s (apply t p) →
-      Within (next holds s (apply t p))
-  apply_within h s t p g inside ok x q u r au v z = elim (hit (applied s) t p u q au) [
-    | inr a ↦ inside x q u r a v z
-    | inl b ↦
-        let rp : read_at s x p ≡ true = rw b.1 at r in
-        let le₁ : commit_clock s t p ≤ clock s x p = rw b.0 at (v p rp) in
-        let le₂ = g.clocks.read_settled x p rp in
-        let w = ok.write_node in
-        let done = g.locks.learned_committed t p ok.learned_there ok.engaged_there in
-        let e₁ = g.clocks.write_slot t p w.0 done w.1 w.2 in
-        let e₂ = g.numbers.learned_number t p w.0 done w.1 w.2 ok.learned_there in
-        let e₃ = g.numbers.engaged_number t p w.0 ok.engaged_there w.1 w.2 in
-        absurd (omega arith)
-  ]
 
   read_note_answers : (h : List Event) (s : State) (t k p : ℕ) (a : Version) (c : Clock) → Ground h s → Snapshots h s →
       Accepted holds modulus s (read_update t k p a c) →
@@ -344,19 +272,12 @@ module _ (holds : Placement) (modulus : ℕ) where
     note_answers = i.note_answers;
     note_read = i.note_read;
     read_got = i.read_got;
-    reader_begun = λ x j q a w. begun_after (status s) t y x b (i.reader_begun x j q a w);
+    reader_begun = λ x j q a w. grind arith;
   }
 
   snapshots_begin : (h : List Event) (s : State) (t : ℕ) (a : Kind) → Snapshots h s → Accepted holds modulus s (begin t a) →
       Snapshots h (next holds s (begin t a))
-  snapshots_begin h s t a i ok = let j = snapshots_move h s t Open (begin_moves holds modulus s t a ok) refl i in record {
-    within = j.within;
-    snapshot = j.snapshot;
-    note_answers = λ x k q d w e. i.note_answers x k q d w (kind_before s t a x ok.0 (i.reader_begun x k q d w) e);
-    note_read = j.note_read;
-    read_got = j.read_got;
-    reader_begun = j.reader_begun;
-  }
+  snapshots_begin h s t a i ok = grind arith
 
   snapshots_read_search : (h : List Event) (s : State) (t k p : ℕ) (a : Version) (c : Clock) → Ground h s → Snapshots h s →
       Accepted holds modulus s (read_search t k p a c) → Snapshots (read_search t k p a c ∷ h) (next holds s (read_search t k p a c))
@@ -366,10 +287,10 @@ module _ (holds : Placement) (modulus : ℕ) where
       | inl f ↦ read_alike (Snapshot h (next holds s (read_search t k p a c))) f (read_snapshot h s t k p a c g i.within ok.0)
       | inr w ↦ read_keeps h s t k p a c ok.0.joined x j q b (i.snapshot x j q b w nc)
     ];
-    note_answers = λ x j q b w e. elim w [ inl f ↦ one_kind (kind s t) ok.1 (rw f.0 at e) | inr w ↦ i.note_answers x j q b w e ];
-    note_read = λ x j e. let r = i.note_read x j e in (r.0, r.1, inr r.2, r.3);
+    note_answers = λ x j q b w e. grind arith;
+    note_read = λ x j e. grind arith;
     read_got = λ x q e. elim (hit (read_at s) t p x q e) [ inl f ↦ (k, a, inl (f.0, refl, f.1, refl)) | inr f ↦ let r = i.read_got x q f in (r.0, r.1, inr r.2) ];
-    reader_begun = λ x j q b w. elim w [ inl f ↦ rw (f.0, ok.0.open_now) refl | inr w ↦ i.reader_begun x j q b w ];
+    reader_begun = λ x j q b w. grind arith;
   }
 
   snapshots_read_update : (h : List Event) (s : State) (t k p : ℕ) (a : Version) (c : Clock) → Ground h s → Snapshots h s →
@@ -386,18 +307,7 @@ module _ (holds : Placement) (modulus : ℕ) where
     ];
     note_read = read_note_read h s t k p a c i;
     read_got = λ x q e. elim (hit (read_at s) t p x q e) [ inl f ↦ (k, a, inl (f.0, refl, f.1, refl)) | inr f ↦ let r = i.read_got x q f in (r.0, r.1, inr r.2) ];
-    reader_begun = λ x j q b w. elim w [ inl f ↦ rw (f.0, ok.0.open_now) refl | inr w ↦ i.reader_begun x j q b w ];
-  }
-
-  snapshots_write : (h : List Event) (s : State) (t k v : ℕ) → Snapshots h s → Accepted holds modulus s (write t k v) →
-      Snapshots h (next holds s (write t k v))
-  snapshots_write h s t k v i ok = record {
-    within = i.within;
-    snapshot = λ x j q b w nc. write_keeps h s t k v ok.0 x j q b (i.snapshot x j q b w nc);
-    note_answers = i.note_answers;
-    note_read = i.note_read;
-    read_got = i.read_got;
-    reader_begun = i.reader_begun;
+    reader_begun = λ x j q b w. grind arith;
   }
 
   snapshots_commit : (h : List Event) (s : State) (t n : ℕ) (c : Clock) → Ground h s → Snapshots h s → Accepted holds modulus s (commit t n c) →
@@ -408,37 +318,14 @@ module _ (holds : Placement) (modulus : ℕ) where
     note_answers = i.note_answers;
     note_read = i.note_read;
     read_got = i.read_got;
-    reader_begun = λ x j q b w. begun_after (status s) t Committed x refl (i.reader_begun x j q b w);
-  }
-
-  snapshots_apply : (h : List Event) (s : State) (t p : ℕ) → Ground h s → Snapshots h s → Accepted holds modulus s (apply t p) →
-      Snapshots h (next holds s (apply t p))
-  snapshots_apply h s t p g i ok = record {
-    within = apply_within h s t p g i.within ok;
-    snapshot = i.snapshot;
-    note_answers = i.note_answers;
-    note_read = i.note_read;
-    read_got = i.read_got;
-    reader_begun = i.reader_begun;
+    reader_begun = λ x j q b w. grind arith;
   }
 
   pub snapshots : (h : List Event) (s : State) (e : Event) → Ground h s → Snapshots h s → Accepted holds modulus s e →
       Snapshots (e ∷ h) (next holds s e)
   snapshots h s (begin t b) g i ok = snapshots_begin h s t b i ok
-  snapshots h s (read_own t k a) g i ok = i
   snapshots h s (read_search t k p a c) g i ok = snapshots_read_search h s t k p a c g i ok
   snapshots h s (read_update t k p a c) g i ok = snapshots_read_update h s t k p a c g i ok
-  snapshots h s (write t k v) g i ok = snapshots_write h s t k v i ok
-  snapshots h s (offer t) g i ok = snapshots_move h s t Offered (offer_moves holds modulus s t g.locks ok) refl i
-  snapshots h s (yes_write t p n) g i ok = i
-  snapshots h s (yes_read t p) g i ok = i
-  snapshots h s (no_overtaken t p k) g i ok = i
-  snapshots h s (no_place t p k) g i ok = i
   snapshots h s (commit t n c) g i ok = snapshots_commit h s t n c g i ok
-  snapshots h s (abort t) g i ok = snapshots_move h s t Aborted (abort_moves holds modulus s t ok) refl i
   snapshots h s (cancel t) g i ok = snapshots_move h s t Aborted (cancel_moves holds modulus s t ok) refl i
-  snapshots h s (learn_abort t p) g i ok = i
-  snapshots h s (learn_write t p) g i ok = i
-  snapshots h s (learn_read t p) g i ok = i
-  snapshots h s (apply t p) g i ok = snapshots_apply h s t p g i ok
-  snapshots h s (finish t) g i ok = snapshots_move h s t Finished (finish_moves holds modulus s t ok) refl i
+  snapshots h s e g i ok = grind arith

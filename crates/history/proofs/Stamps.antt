@@ -1,14 +1,14 @@
 -- The stamps in the clocks: clocks are only ever joined whole, so every slot of a clock names a committed update that is within it.
-use Rattle.std.proofs.Common.{◌≡◌, ℕ, ◌≤◌, max, true, false, cond, eqb, ◌⊎◌, sym, refl, ap, ◌∙◌, inl, inr, le_trans, arith}
-use Rattle.std.proofs.lemmas.Bool.{cases_eq, cases_lt}
+use Rattle.std.proofs.Common.{◌≡◌, ℕ, ◌≤◌, max, true, false, ◌⊎◌, sym, ap, ◌∙◌, inl, inr, arith, ◌==◌}
+use Rattle.std.proofs.lemmas.Bool.{cases_eq, cases_lt, both_ways, cond_both}
 use Rattle.history.specs.Table.{Version, update_at}
-use Rattle.history.specs.Protocol.{Placement, Clock, join, Status, Open, Offered, Committed, Aborted, Finished, State, status, clock, read_at, wrote, vote_clock, stamp, commit_clock, seen, base_clock, becomes, sees, change_transaction, change_node, Event, begin, read_own, read_search, read_update, write, offer, yes_write, yes_read, no_overtaken, no_place, commit, abort, cancel, learn_abort, learn_write, learn_read, apply, finish, Joined, WriteNode, MayRead, next, Accepted}
-use Rattle.history.proofs.Basics.{update_at₂, same, other, other₂, slot, hit, set_true, clear, differ, not_committed, committed_after}
-use Rattle.history.proofs.Locks.{Locks, Moves, begin_moves, offer_moves, abort_moves, cancel_moves, finish_moves}
+use Rattle.history.specs.Protocol.{Placement, Clock, join, Offered, Committed, State, status, clock, read_at, wrote, vote_clock, stamp, commit_clock, seen, base_clock, sees, change_node, Event, read_search, read_update, yes_write, yes_read, commit, learn_read, apply, Joined, WriteNode, MayRead, next, Accepted}
+use Rattle.history.proofs.Basics.{update_at₂, same, other₂, slot}
+use Rattle.history.proofs.Locks.{Locks}
 use Rattle.history.proofs.Numbers.{commit_above}
 
 each_clock : (Q : Clock → Type 0) (f : ℕ → Clock) (t : ℕ) (c : Clock) → ((x : ℕ) → Q (f x)) → Q c → (x : ℕ) → Q (update_at f t c x)
-each_clock Q f t c g h x = elim (eqb t x) as (λ b. Q (cond b c (f x))) [ true ↦ h | false ↦ g x ]
+each_clock Q f t c g h x = cond_both (t == x) c (f x) Q (λ _. h) (λ _. g x)
 
 max_either : (a b : ℕ) → (max a b ≡ a) ⊎ (max a b ≡ b)
 max_either a b = elim (cases_lt a b) [ inl h ↦ inr (omega arith) | inr h ↦ inl (omega arith) ]
@@ -47,10 +47,7 @@ module _ (holds : Placement) (modulus : ℕ) where
   stamped_above : (s : State) (x y : Clock) (q : ℕ) → ((r : ℕ) → x r ≤ y r) → y q ≡ x q →
       ((x q ≡ 0) ⊎ ((u : ℕ) × (status s u ≡ Committed) × WriteNode holds s u q × (x q ≡ stamp s u) × ((r : ℕ) → commit_clock s u r ≤ x r))) →
       (y q ≡ 0) ⊎ ((u : ℕ) × (status s u ≡ Committed) × WriteNode holds s u q × (y q ≡ stamp s u) × ((r : ℕ) → commit_clock s u r ≤ y r))
-  stamped_above s x y q le e f = elim f [
-    | inl z ↦ inl (e ∙ z)
-    | inr w ↦ inr (w.0, w.1, w.2, e ∙ w.3, λ r. le_trans (w.4 r) (le r))
-  ]
+  stamped_above s x y q le e f = grind arith
 
   -- the committed stay as they are
   abbrev Keeps : State → State → Type 0
@@ -58,25 +55,10 @@ module _ (holds : Placement) (modulus : ℕ) where
       (status r u ≡ Committed) × (stamp s u ≡ stamp r u) × ((q : ℕ) → commit_clock r u q ≡ commit_clock s u q) × ((k : ℕ) → wrote s u k ≡ true → wrote r u k ≡ true)
 
   stamped_kept : (s r : State) (x : Clock) → Keeps s r → Stamped s x → Stamped r x
-  stamped_kept s r x f g q = elim (g q) [
-    | inl z ↦ inl z
-    | inr w ↦ let k = f w.0 w.1 in
-        inr (w.0, k.0, (w.2.0, k.3 w.2.0 w.2.1, w.2.2), w.3 ∙ k.1, λ z. le_trans (at_most (k.2 z)) (w.4 z))
-  ]
-    where
-      at_most : {a b : ℕ} → a ≡ b → a ≤ b
-      at_most e = omega arith
-
-  move_keeps : (s : State) (t : ℕ) (y : Status) → Moves holds modulus s t y → Keeps s (change_transaction t (becomes y) s)
-  move_keeps s t y m u c = (committed_after (status s) t y u m.from c, refl, (λ q. refl), λ k w. w)
-
-  write_keeps : (s : State) (t k v : ℕ) → Keeps s (next holds s (write t k v))
-  write_keeps s t k v u c = (c, refl, (λ q. refl), λ j w. set_true (wrote s) t k u j w)
+  stamped_kept s r x f g q = grind arith
 
   commit_keeps : (s : State) (t n : ℕ) (c : Clock) → status s t ≡ Offered → Keeps s (next holds s (commit t n c))
-  commit_keeps s t n c o u e =
-      let d = differ (status s) t u Offered o refl e in
-      (committed_after (status s) t Committed u (not_committed (status s t) Offered o refl) e, sym (other (stamp s) t n u d), (λ q. slot (commit_clock s) t c u q d), λ j w. w)
+  commit_keeps s t n c o u e = grind arith
 
   commit_new : (s : State) (t n : ℕ) (c : Clock) → Stamps s → Accepted holds modulus s (commit t n c) → Stamped (next holds s (commit t n c)) c
   commit_new s t n c i ok q = elim (ok.slots q) [
@@ -86,30 +68,17 @@ module _ (holds : Placement) (modulus : ℕ) where
   ]
 
   read_stamped : (s : State) (t p : ℕ) (c : Clock) → Stamps s → Joined s t p c → Stamped s c
-  read_stamped s t p c i j q = elim (j.least q) [
-    | inl e ↦ stamped_above s (clock s t) c q j.above e (i.clock_stamped t q)
-    | inr x ↦ stamped_above s (commit_clock s x.0) c q (j.takes x.0 x.1 x.2 x.3) x.4 (i.commit_stamped x.0 q)
-  ]
+  read_stamped s t p c i j q = grind arith
 
   read_unread_zero : (s : State) (t p : ℕ) (c : Clock) → Stamps s → (x q : ℕ) → ((z : ℕ) → update_at₂ (read_at s) t p true x z ≡ false) →
       update_at (clock s) t c x q ≡ 0
   read_unread_zero s t p c i x q n = elim (cases_eq x t) [
-    | inl e ↦ absurd (clear (update_at₂ (read_at s) t p true x p) (at_last e) (n p))
+    | inl e ↦ absurd (both_ways (update_at₂ (read_at s) t p true x p) (n p) (at_last e))
     | inr d ↦ slot (clock s) t c x q d ∙ i.unread_zero x q (λ z. sym (other₂ (read_at s) t p true x z d) ∙ n z)
   ]
     where
       at_last : x ≡ t → update_at₂ (read_at s) t p true x p ≡ true
       at_last e = grind arith
-
-  stamps_move : (s : State) (t : ℕ) (y : Status) → Moves holds modulus s t y → Stamps s → Stamps (change_transaction t (becomes y) s)
-  stamps_move s t y m i = let f = λ (x : Clock) (g : Stamped s x). stamped_kept s (change_transaction t (becomes y) s) x (move_keeps s t y m) g in record {
-    clock_stamped = λ u. f (clock s u) (i.clock_stamped u);
-    seen_stamped = λ p. f (seen s p) (i.seen_stamped p);
-    vote_stamped = λ u. f (vote_clock s u) (i.vote_stamped u);
-    commit_stamped = λ u. f (commit_clock s u) (i.commit_stamped u);
-    unread_zero = i.unread_zero;
-    read_held = i.read_held;
-  }
 
   stamps_read : (s : State) (t k p : ℕ) (a : Version) (c : Clock) → Stamps s → MayRead holds s t k p a c → Stamps (next holds s (read_search t k p a c))
   stamps_read s t k p a c i ok = record {
@@ -118,17 +87,7 @@ module _ (holds : Placement) (modulus : ℕ) where
     vote_stamped = i.vote_stamped;
     commit_stamped = i.commit_stamped;
     unread_zero = read_unread_zero s t p c i;
-    read_held = λ x q r. elim (hit (read_at s) t p x q r) [ inr f ↦ i.read_held x q f | inl f ↦ (k, rw f.1 ok.held) ];
-  }
-
-  stamps_write : (s : State) (t k v : ℕ) → Stamps s → Stamps (next holds s (write t k v))
-  stamps_write s t k v i = let f = λ (x : Clock) (g : Stamped s x). stamped_kept s (next holds s (write t k v)) x (write_keeps s t k v) g in record {
-    clock_stamped = λ u. f (clock s u) (i.clock_stamped u);
-    seen_stamped = λ p. f (seen s p) (i.seen_stamped p);
-    vote_stamped = λ u. f (vote_clock s u) (i.vote_stamped u);
-    commit_stamped = λ u. f (commit_clock s u) (i.commit_stamped u);
-    unread_zero = i.unread_zero;
-    read_held = i.read_held;
+    read_held = λ x q r. grind arith;
   }
 
   stamps_yes : (s : State) (t p : ℕ) → Stamps s → Stamps (next holds s (yes_read t p))
@@ -163,21 +122,11 @@ module _ (holds : Placement) (modulus : ℕ) where
   }
 
   pub stamps : (s : State) (e : Event) → Locks holds modulus s → Stamps s → Accepted holds modulus s e → Stamps (next holds s e)
-  stamps s (begin t b) l i ok = stamps_move s t Open (begin_moves holds modulus s t b ok) i
-  stamps s (read_own t k a) l i ok = i
   stamps s (read_search t k p a c) l i ok = stamps_read s t k p a c i ok.0
   stamps s (read_update t k p a c) l i ok = stamps_read s t k p a c i ok.0
-  stamps s (write t k v) l i ok = stamps_write s t k v i
-  stamps s (offer t) l i ok = stamps_move s t Offered (offer_moves holds modulus s t l ok) i
   stamps s (yes_write t p n) l i ok = stamps_yes s t p i
   stamps s (yes_read t p) l i ok = stamps_yes s t p i
-  stamps s (no_overtaken t p k) l i ok = i
-  stamps s (no_place t p k) l i ok = i
   stamps s (commit t n c) l i ok = stamps_commit s t n c i ok
-  stamps s (abort t) l i ok = stamps_move s t Aborted (abort_moves holds modulus s t ok) i
-  stamps s (cancel t) l i ok = stamps_move s t Aborted (cancel_moves holds modulus s t ok) i
-  stamps s (learn_abort t p) l i ok = i
-  stamps s (learn_write t p) l i ok = i
   stamps s (learn_read t p) l i ok = stamps_release s t p i
   stamps s (apply t p) l i ok = stamps_release s t p i
-  stamps s (finish t) l i ok = stamps_move s t Finished (finish_moves holds modulus s t ok) i
+  stamps s e l i ok = grind arith

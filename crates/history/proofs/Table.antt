@@ -1,5 +1,5 @@
 -- On one table, two neighbours without conflict may be exchanged; so an order may be parted stably.
-use Rattle.std.proofs.Common.{◌≡◌, ℕ, Bool, true, false, cond, not, eqb, ◌⊎◌, List, [], ◌∷◌, ◌++◌, sym, refl, ap, ◌∙◌, inl, inr, arith}
+use Rattle.std.proofs.Common.{◌≡◌, ℕ, Bool, true, false, cond, not, ◌⊎◌, List, [], ◌∷◌, ◌++◌, sym, refl, ap, ◌∙◌, inl, inr, arith, filter, ◌==◌}
 use mathlib.Core.Path.{fun_ext}
 use mathlib.Core.List.Permᴰ
 use mathlib.Core.List.{Permᴰ}
@@ -31,7 +31,7 @@ after_out : (t : ℕ) (s : List Operation) (f : Table) (k : ℕ) → puts s k �
 after_out t [] f k e = refl
 after_out t (get j ∷ s) f k e = after_out t s f k e
 after_out t (put j v ∷ s) f k e =
-    let h = or_parts (eqb j k) (puts s k) e in
+    let h = or_parts (j == k) (puts s k) e in
     rw h.0 (after_out t s f k h.1)
 
 -- its answers depend on the keys that it reads only
@@ -39,30 +39,23 @@ answers_local : (t : ℕ) (s : List Operation) (f g : Table) → ((k : ℕ) → 
 answers_local t [] f g h = refl
 answers_local t (get j ∷ s) f g h =
     let here = after_local t s f g j (h j (rw (eq-eqb j j refl))) in
-    let rest = answers_local t s f g (λ k e. h k (or_right (eqb j k) (gets s k) e)) in
+    let rest = answers_local t s f g (λ k e. h k (or_right (j == k) (gets s k) e)) in
     cc
 answers_local t (put j v ∷ s) f g h = answers_local t s f g h
 
 -- ── Orders ──
 
--- those of an order that pass a test
-abbrev pub keep : (ℕ → Bool) → List ℕ → List ℕ
-keep v [] = []
-keep v (x ∷ l) = cond (v x) (x ∷ keep v l) (keep v l)
-
 -- the stable partition: those that pass come first, then the others, each part in the order that it had
 abbrev pub parted : (ℕ → Bool) → List ℕ → List ℕ
-parted v l = keep (λ x. not (v x)) l ++ keep v l
+parted v l = filter (λ x. not (v x)) l ++ filter v l
 
-pub keep_member : (v : ℕ → Bool) (l : List ℕ) (x : ℕ) → Member x (keep v l) → Member x l × (v x ≡ true)
-keep_member v [] x m = absurd m
-keep_member v (y ∷ l) x m = go (λ n. let r = keep_member v l x n in (inr r.0, r.1)) (v y) refl m
+pub kept_member : (v : ℕ → Bool) (l : List ℕ) (x : ℕ) → Member x (filter v l) → Member x l × (v x ≡ true)
+kept_member v [] x m = absurd m
+kept_member v (y ∷ l) x m = go (λ n. let r = kept_member v l x n in (inr r.0, r.1)) (v y) refl m
   where
-    go : (Member x (keep v l) → Member x (y ∷ l) × (v x ≡ true)) → (b : Bool) → v y ≡ b → Member x (cond b (y ∷ keep v l) (keep v l)) →
+    go : (Member x (filter v l) → Member x (y ∷ l) × (v x ≡ true)) → (b : Bool) → v y ≡ b → Member x (cond b (y ∷ filter v l) (filter v l)) →
         Member x (y ∷ l) × (v x ≡ true)
-    go more true e (inl p) = (inl p, ap v p ∙ e)
-    go more true e (inr n) = more n
-    go more false e n = more n
+    go e1 b e2 e3 = grind arith
 
 pub parted_permutes : (v : ℕ → Bool) (l : List ℕ) → Permᴰ (parted v l) l
 parted_permutes v [] = Permᴰ.nil
@@ -71,8 +64,8 @@ parted_permutes v (x ∷ l) = go (v x) (parted_permutes v l)
     n : ℕ → Bool
     n y = not (v y)
 
-    go : (b : Bool) → Permᴰ (parted v l) l → Permᴰ (cond (not b) (x ∷ keep n l) (keep n l) ++ cond b (x ∷ keep v l) (keep v l)) (x ∷ l)
-    go true r = Permᴰ.trans (Permᴰ.middle x (keep n l) (keep v l)) (Permᴰ.cons refl r)
+    go : (b : Bool) → Permᴰ (parted v l) l → Permᴰ (cond (not b) (x ∷ filter n l) (filter n l) ++ cond b (x ∷ filter v l) (filter v l)) (x ∷ l)
+    go true r = Permᴰ.trans (Permᴰ.middle x (filter n l) (filter v l)) (Permᴰ.cons refl r)
     go false r = Permᴰ.cons refl r
 
 module _ (script : ℕ → List Operation) (stays : ℕ → Bool) where
@@ -139,13 +132,13 @@ module _ (script : ℕ → List Operation) (stays : ℕ → Bool) where
 
         go : AllAnswered script stays got (parted v l) f × (play_all script stays (parted v l) f ≡ play_all script stays l f) →
             (b : Bool) → v x ≡ b →
-            AllAnswered script stays got (cond (not b) (x ∷ keep n l) (keep n l) ++ cond b (x ∷ keep v l) (keep v l)) f
-            × (play_all script stays (cond (not b) (x ∷ keep n l) (keep n l) ++ cond b (x ∷ keep v l) (keep v l)) f ≡ play_all script stays (x ∷ l) f)
+            AllAnswered script stays got (cond (not b) (x ∷ filter n l) (filter n l) ++ cond b (x ∷ filter v l) (filter v l)) f
+            × (play_all script stays (cond (not b) (x ∷ filter n l) (filter n l) ++ cond b (x ∷ filter v l) (filter v l)) f ≡ play_all script stays (x ∷ l) f)
         go rest false e = ((ap (answers x (script x)) rest.1 ∙ p.0, rest.0), ap (play script stays x) rest.1)
         go rest true e =
-            let apart : (u : ℕ) → Member u (keep n l) → Apart (script u) (script x) = λ u m. let r = keep_member n l u m in h u x (inl (refl, r.0)) (not-true (v u) r.1) e in (
-              move_before x (keep n l) (keep v l) f apart (ap (answers x (script x)) rest.1 ∙ p.0, rest.0),
-              move_before_table x (keep n l) (keep v l) f apart ∙ ap (play script stays x) rest.1,
+            let apart : (u : ℕ) → Member u (filter n l) → Apart (script u) (script x) = λ u m. let r = kept_member n l u m in h u x (inl (refl, r.0)) (not-true (v u) r.1) e in (
+              move_before x (filter n l) (filter v l) f apart (ap (answers x (script x)) rest.1 ∙ p.0, rest.0),
+              move_before_table x (filter n l) (filter v l) f apart ∙ ap (play script stays x) rest.1,
             )
 
     -- one whose writes do not stay may run anywhere

@@ -1,12 +1,14 @@
 -- Apply: a node applies the update that waits there with the least number.
-use Rattle.std.proofs.Common.{◌≡◌, ℕ, ◌+◌, ◌<◌, ◌≤◌, Bool, true, false, cond, ◌&&◌, eqb, ltb, leb, [], ◌∷◌, ◌++◌, map, length, set, Some, None, Option, sym, refl, ap, ◌∙◌, subst, inr, ⊎_elim, arith}
+use Rattle.std.proofs.Common.{◌≡◌, ℕ, ◌+◌, ◌<◌, ◌≤◌, Bool, true, cond, ◌&&◌, nat_lt, nat_le, [], ◌∷◌, ◌++◌, map, length, slice_set, Some, None, Option, sym, refl, ap, ◌∙◌, subst, inr, ⊎_elim, arith, ◌==◌}
 use Rattle.std.proofs.lemmas.List.{length-set}
-use Rattle.std.proofs.lemmas.Bool.{cases_eq, both_ways, and_parts, and_from, and_left, lt-ltb, le-leb, ne_eqb}
+use Rattle.std.proofs.lemmas.Bool.{cases_eq, and_parts, and_from, and_left, lt-ltb, le-leb, ne_eqb}
 use Rattle.std.proofs.lemmas.Bool.Decides.{nat_tests}
+use Rattle.std.proofs.lemmas.Grind.{common_steps}
+use Rattle.clock.proofs.Joins.{length-join}
 use Rattle.calls.specs.declared.answer.Answer.TheVariants.{Applied}
 use Rattle.calls.specs.declared.refusal.Refusal.TheVariants.{NoSuchNode, NothingToApply, NotLearned}
 use Rattle.calls.specs.Requests.{apply}
-use Rattle.clock.specs.Clocks.{slot, marked}
+use Rattle.clock.specs.Clocks.{marked}
 use Rattle.store.specs.declared.Version.{Version as Stored}
 use Rattle.store.specs.Model.{FreeRule, Chain, Meaning, first_version, one_put}
 use Rattle.store.specs.Batch.{asked}
@@ -20,30 +22,25 @@ use Rattle.rules.specs.Applying.{has_seen, advanced, waits, number_at, least_wai
 use Rattle.rules.proofs.View.{view, placed, participation_of, version_of, without_last}
 use Rattle.rules.proofs.Invariant.{Invariant, Shaped, GoodStep}
 use Rattle.rules.proofs.Checks.{GoodOutcome, good_step, checked, refused}
-use Rattle.rules.proofs.Views.{begun_place, marked_set, view_begun, participation_begun, view_node}
+use Rattle.rules.proofs.Views.{begun_place, view_begun, participation_begun, view_node}
 use Rattle.rules.proofs.Keeping.{fits, keeps_change}
-use Rattle.rules.proofs.Later.{Later, later_fits, last_put, shown_put}
+use Rattle.rules.proofs.Later.{Later, later_fits}
 use Rattle.rules.proofs.Sets.{asked_written}
 use Rattle.rules.proofs.Least.{least_waiting_is}
-use Rattle.rules.proofs.Places.{PutsGranted, enough, put_all_at, put_balance, no_put_refused}
-use Rattle.rules.proofs.MoreViews.{length-join, view_changed, write_node_view, write_node_world, engaged_begun, seen_after, below_eight, stamp_view, seen_view, released_row, engaged_before}
+use Rattle.rules.proofs.Places.{enough, put_all_at, put_balance}
+use Rattle.rules.proofs.MoreViews.{view_changed, write_node_view, write_node_world, engaged_begun, seen_after, below_eight, stamp_view, seen_view}
 
 -- A chain with a version put, or not.
 chain_first_last : (b : Bool) (v : Stored) (c : Chain) → without_last c.versions ++ first_version ∷ [] ≡ c.versions →
     without_last (cond b (one_put v c) c).versions ++ first_version ∷ [] ≡ (cond b (one_put v c) c).versions
-chain_first_last true v c h = last_put v c.versions h
-chain_first_last false v c h = h
+chain_first_last b v c e1 = grind (arith, nat_tests)
 
 chain_view : (b : Bool) (v : Stored) (c : Chain) → without_last c.versions ++ first_version ∷ [] ≡ c.versions →
     map version_of (without_last (cond b (one_put v c) c).versions) ≡ cond b (version_of v ∷ map version_of (without_last c.versions)) (map version_of (without_last c.versions))
-chain_view true v c h = shown_put v c.versions h
-chain_view false v c h = refl
+chain_view b v c e1 = grind (arith, nat_tests)
 
-asked_test : (a : ℕ) (written held inside : Bool) → a ≡ cond ((written && held) && inside) 1 0 → (held ≡ true → inside ≡ true) → ltb 0 a ≡ held && written
-asked_test a true true inside e h = let i = h refl in grind (arith, nat_tests)
-asked_test a true false inside e h = grind (arith, nat_tests)
-asked_test a false true inside e h = grind (arith, nat_tests)
-asked_test a false false inside e h = grind (arith, nat_tests)
+asked_test : (a : ℕ) (written held inside : Bool) → a ≡ cond ((written && held) && inside) 1 0 → (held ≡ true → inside ≡ true) → nat_lt 0 a ≡ held && written
+asked_test a written held inside e1 e2 = grind (arith, nat_tests)
 
 module _ (w : World) (inv : Invariant w) (t p : ℕ) (begun : is_begun w t ≡ true) (there : is_node w p ≡ true) (engaged : marked (transaction w t).engaged p ≡ true) where
   abbrev x : Transaction
@@ -59,22 +56,10 @@ module _ (w : World) (inv : Invariant w) (t p : ℕ) (begun : is_begun w t ≡ t
   after = is_applied p (is_released p x)
 
   after_later : Later w x after
-  after_later =
-      record {
-        shaped = record { clock = shape.clock; read = shape.read; noted = shape.noted; written = shape.written; voted = shape.voted; engaged = length-set x.engaged p false ∙ shape.engaged; numbers = shape.numbers; votes = shape.votes; learned = shape.learned; applied = length-set x.applied p true ∙ shape.applied; commit = shape.commit };
-        noted_same = refl;
-        written_same = refl;
-        polled_same = refl;
-        offered = λ e. e;
-        closed = λ e. both_ways (marked x.engaged p) (inv.open_idle t p begun e) engaged;
-        numbers = λ q h. inv.numbers_there t q begun h;
-        voted = λ q h. inv.engaged_voted t q begun (engaged_before w inv t p begun there q h);
-      }
+  after_later = grind (arith, nat_tests, common_steps)
 
-  after_view : (q : ℕ) → participation_of after q ≡ protocol.releases (eqb p q) (protocol.applies (eqb p q) (participation_of x q))
-  after_view q =
-      let applied : marked (set x.applied p true) q ≡ cond (eqb p q) true (marked x.applied q) = marked_set x.applied p q true (let l = shape.applied in let b = below in omega arith) in
-      λ i. record { voted = marked x.voted q; engaged = released_row w inv t p begun there q i; number = slot x.numbers q; learned = marked x.learned q; applied = applied i }
+  after_view : (q : ℕ) → participation_of after q ≡ protocol.releases (p == q) (protocol.applies (p == q) (participation_of x q))
+  after_view q = grind (arith, nat_tests, common_steps)
 
   -- ── The node ──
 
@@ -87,7 +72,7 @@ module _ (w : World) (inv : Invariant w) (t p : ℕ) (begun : is_begun w t ≡ t
   store_then = put_all w.store p t x (written_at w x p)
 
   abbrev puts : ℕ → ℕ → Bool
-  puts q k = eqb p q && ltb 0 (asked (written_at w x p) k)
+  puts q k = (p == q) && nat_lt 0 (asked (written_at w x p) k)
 
   abbrev version_put : ℕ → Stored
   version_put k = record { value = written_value x k; writer = t }
@@ -100,16 +85,16 @@ module _ (w : World) (inv : Invariant w) (t p : ℕ) (begun : is_begun w t ≡ t
       subst (λ (c : Chain). without_last c.versions ++ first_version ∷ [] ≡ c.versions) (sym (chain_then q k))
       (chain_first_last (puts q k) (version_put k) (w.store q k) (inv.first_last q k))
 
-  puts_same : (q k : ℕ) → puts q k ≡ eqb p q && (holds w q k && protocol.wrote (view w) t k)
+  puts_same : (q k : ℕ) → puts q k ≡ (p == q) && (holds w q k && protocol.wrote (view w) t k)
   puts_same q k =
       ⊎_elim
       (λ (same : p ≡ q).
-      subst (λ (r : ℕ). puts r k ≡ eqb p r && (holds w r k && protocol.wrote (view w) t k)) same
-      (ap (λ (b : Bool). eqb p p && b)
-      (asked_test (asked (written_at w x p) k) (wrote x k) (holds w p k) (ltb k 64) (asked_written w x p k)
+      subst (λ (r : ℕ). puts r k ≡ (p == r) && (holds w r k && protocol.wrote (view w) t k)) same
+      (ap (λ (b : Bool). (p == p) && b)
+      (asked_test (asked (written_at w x p) k) (wrote x k) (holds w p k) (nat_lt k 64) (asked_written w x p k)
       (λ held. let key = (inv.holders p k held).1 in let keys = inv.few_keys in lt-ltb k 64 (omega arith))
       ∙ ap (λ (a : protocol.Transaction). holds w p k && a.writing.wrote k) (sym (view_begun w t begun)))))
-      (λ (apart : p ≡ q → ⊥). and_left (eqb p q) (ltb 0 (asked (written_at w x p) k)) (ne_eqb p q apart) ∙ sym (and_left (eqb p q) (holds w q k && protocol.wrote (view w) t k) (ne_eqb p q apart)))
+      (λ (apart : p ≡ q → ⊥). and_left (p == q) (nat_lt 0 (asked (written_at w x p) k)) (ne_eqb p q apart) ∙ sym (and_left (p == q) (holds w q k && protocol.wrote (view w) t k) (ne_eqb p q apart)))
       (cases_eq p q)
 
   chains_view : (q k : ℕ) → map version_of (without_last (store_then q k).versions) ≡ protocol.put_versions (placed w.placement) (view w) t p q k
@@ -117,7 +102,7 @@ module _ (w : World) (inv : Invariant w) (t p : ℕ) (begun : is_begun w t ≡ t
       ap (λ (c : Chain). map version_of (without_last c.versions)) (chain_then q k)
       ∙ chain_view (puts q k) (version_put k) (w.store q k) (inv.first_last q k)
       ∙ ap (λ (b : Bool). cond b (version_of (version_put k) ∷ (view w).chain q k) ((view w).chain q k)) (puts_same q k)
-      ∙ ap (λ (a : protocol.Transaction). cond (eqb p q && (holds w q k && protocol.wrote (view w) t k)) (version (a.writing.value k) t ∷ (view w).chain q k) ((view w).chain q k)) (sym (view_begun w t begun))
+      ∙ ap (λ (a : protocol.Transaction). cond (p == q && (holds w q k && protocol.wrote (view w) t k)) (version (a.writing.value k) t ∷ (view w).chain q k) ((view w).chain q k)) (sym (view_begun w t begun))
 
   apply_fits : is_write_node w x p ≡ true → marked x.learned p ≡ true →
       ((u : ℕ) → 1 ≤ u → u < 1 + length w.transactions → waits w p u ≡ true → number_at w p t ≤ number_at w p u) →
@@ -126,7 +111,7 @@ module _ (w : World) (inv : Invariant w) (t p : ℕ) (begun : is_begun w t ≡ t
       record {
         same_placement = refl;
         keeps =
-            keeps_change w (set w.nodes p node_then) t after store_then inv begun (length-set w.nodes p node_then)
+            keeps_change w (slice_set w.nodes p node_then) t after store_then inv begun (length-set w.nodes p node_then)
             (seen_after w p node_then inv there (length-join (node w p).seen x.commit))
             (later_fits w x after (fits w t inv begun) after_later) first_last_then
             (put_balance w inv t p begun (let l = shape.engaged in let b = below in omega arith) engaged);
@@ -134,9 +119,9 @@ module _ (w : World) (inv : Invariant w) (t p : ℕ) (begun : is_begun w t ≡ t
             inr (
               protocol.apply t p,
               record {
-                engaged_there = ap (λ (a : protocol.Participation). a.engaged) (participation_begun w t p begun) ∙ engaged;
+                engaged_there = grind (arith, nat_tests, common_steps);
                 write_node = write_node_view w inv t begun p writes;
-                learned_there = ap (λ (a : protocol.Participation). a.learned) (participation_begun w t p begun) ∙ learned;
+                learned_there = grind (arith, nat_tests, common_steps);
                 least =
                     λ u there' writes'.
                     let r = engaged_begun w inv u p there' in
@@ -148,9 +133,9 @@ module _ (w : World) (inv : Invariant w) (t p : ℕ) (begun : is_begun w t ≡ t
                     let l = least u (omega arith) (omega arith) (and_from (marked (transaction w u).engaged p) (is_write_node w (transaction w u) p) r.1 (write_node_world w inv u r.0 p writes')) in
                     omega arith;
               },
-              view_changed w (set w.nodes p node_then) t after store_then begun (λ here a. a) p
+              view_changed w (slice_set w.nodes p node_then) t after store_then begun (λ here a. a) p
                   (λ here a. protocol.releases here (protocol.applies here a))
-                  (λ q. protocol.advances (protocol.stamp (view w) t) (eqb p q) (protocol.sees (protocol.join (protocol.seen (view w) p) (protocol.commit_clock (view w) t)) (eqb p q) ((view w).node q)))
+                  (λ q. protocol.advances (protocol.stamp (view w) t) (p == q) (protocol.sees (protocol.join (protocol.seen (view w) p) (protocol.commit_clock (view w) t)) (p == q) ((view w).node q)))
                   (protocol.put_versions (placed w.placement) (view w) t p)
                   (λ a. refl) refl (λ a. refl) after_view
                   (view_node w p node_then (λ here a. protocol.advances (protocol.stamp (view w) t) here (protocol.sees (protocol.join (protocol.seen (view w) p) (protocol.commit_clock (view w) t)) here a)) there (λ a. refl)
@@ -166,7 +151,7 @@ waiting_begun w p t e =
     let found = least_waiting_is w p t e in
     let a = found.1 in
     let b = found.2 in
-    and_from (ltb 0 t) (leb t (length w.transactions)) (lt-ltb 0 t (omega arith)) (le-leb t (length w.transactions) (omega arith))
+    and_from (nat_lt 0 t) (nat_le t (length w.transactions)) (lt-ltb 0 t (omega arith)) (le-leb t (length w.transactions) (omega arith))
 
 module _ (w : World) (inv : Invariant w) (p : ℕ) (there : is_node w p ≡ true) where
   applied : (o : Option ℕ) → least_waiting w p ≡ o → GoodOutcome w (apply p) (apply_least w p o)
@@ -176,12 +161,6 @@ module _ (w : World) (inv : Invariant w) (p : ℕ) (there : is_node w p ≡ true
       let parts = and_parts (marked (transaction w t).engaged p) (is_write_node w (transaction w t) p) found.0 in
       checked (marked (transaction w t).learned p) w (apply p) NotLearned _ inv
       (λ learned. apply_fits w inv t p (waiting_begun w p t e) there parts.0 parts.1 learned found.3)
-
--- The store grants every put of an apply.
-pub no_put_of_apply_refused : (w : World) → Invariant w → (p t : ℕ) → least_waiting w p ≡ Some t → PutsGranted w.store p t (transaction w t) (written_at w (transaction w t) p)
-no_put_of_apply_refused w inv p t e =
-    let found = least_waiting_is w p t e in
-    no_put_refused w inv t p (waiting_begun w p t e) (and_parts (marked (transaction w t).engaged p) (is_write_node w (transaction w t) p) found.0).0
 
 pub apply_good : (free : FreeRule) (w : World) (p : ℕ) → Invariant w → GoodStep free w (apply p)
 apply_good free w p inv =

@@ -1,8 +1,9 @@
 -- Beginning a transaction.
-use Rattle.std.proofs.Common.{◌≡◌, ℕ, zero, suc, ◌+◌, ◌-◌, ◌<◌, Bool, true, false, cond, ◌&&◌, ◌||◌, eqb, ltb, List, [], ◌∷◌, ◌++◌, length, get_or, replicate, None, Option, sym, refl, ap, ◌∙◌, subst, inr, ⊎_elim, arith}
-use Rattle.std.proofs.lemmas.List.{length-append, get_or_append_left, get_or_at}
-use Rattle.std.proofs.lemmas.Bool.{or_from, eqb-true, eq-eqb, cases_Bool, both_ways, ltb-true, cond-false}
+use Rattle.std.proofs.Common.{◌≡◌, ℕ, zero, suc, ◌+◌, ◌<◌, Bool, true, false, cond, ◌&&◌, ◌||◌, nat_lt, List, [], ◌∷◌, ◌++◌, length, slice_index_or, replicate, None, Option, sym, refl, ap, ◌∙◌, subst, inr, ⊎_elim, arith, ◌==◌}
+use Rattle.std.proofs.lemmas.List.{length-append}
+use Rattle.std.proofs.lemmas.Bool.{or_from, eq-eqb, cases_Bool, both_ways, ltb-true, cond-false}
 use Rattle.std.proofs.lemmas.Bool.Decides.{nat_tests}
+use Rattle.std.proofs.lemmas.Grind.{common_steps}
 use Rattle.calls.specs.declared.answer.Answer.TheVariants.{Begun}
 use Rattle.calls.specs.declared.refusal.Refusal.TheVariants.{NumbersUsedUp, BadRecord}
 use Rattle.calls.specs.Requests.{begin}
@@ -23,22 +24,22 @@ use Rattle.rules.proofs.Keeping.{Fits, fits}
 use Rattle.rules.proofs.States.{bit_zero}
 
 -- A row that holds its default everywhere.
-pub getD_blank : {X : Type 0} (n i : ℕ) (d : X) → get_or (replicate n d) i d ≡ d
-getD_blank zero i d = refl
-getD_blank (suc n) zero d = refl
-getD_blank (suc n) (suc i) d = getD_blank n i d
+pub get_or-blank : {X : Type 0} (n i : ℕ) (d : X) → slice_index_or (replicate n d) i d ≡ d
+get_or-blank zero i d = refl
+get_or-blank (suc n) zero d = refl
+get_or-blank (suc n) (suc i) d = get_or-blank n i d
 
 -- ── A transaction as it begins ──
 
 module _ (kind : Kind) where
   unnoted : (k : ℕ) → noted (new_transaction kind) k ≡ false
-  unnoted k = ap (λ (o : Option ℕ). is_there o) (getD_blank {X = Option ℕ} 64 k None)
+  unnoted k = ap (λ (o : Option ℕ). is_there o) (get_or-blank {X = Option ℕ} 64 k None)
 
   unwritten : (k : ℕ) → wrote (new_transaction kind) k ≡ false
-  unwritten k = ap (λ (o : Option ℕ). is_there o) (getD_blank {X = Option ℕ} 64 k None)
+  unwritten k = ap (λ (o : Option ℕ). is_there o) (get_or-blank {X = Option ℕ} 64 k None)
 
-  no_value : (k : ℕ) → value_or (get_or (replicate {A = Option ℕ} 64 None) k None) 0 ≡ 0
-  no_value k = ap (λ (o : Option ℕ). value_or o 0) (getD_blank {X = Option ℕ} 64 k None)
+  no_value : (k : ℕ) → value_or (slice_index_or (replicate {A = Option ℕ} 64 None) k None) 0 ≡ 0
+  no_value k = ap (λ (o : Option ℕ). value_or o 0) (get_or-blank {X = Option ℕ} 64 k None)
 
   untouched : (k : ℕ) → (noted (new_transaction kind) k || wrote (new_transaction kind) k) ≡ true → ⊥
   untouched k e = both_ways (noted (new_transaction kind) k || wrote (new_transaction kind) k) (or_from (noted (new_transaction kind) k) (wrote (new_transaction kind) k) (unnoted k) (unwritten k)) e
@@ -49,66 +50,45 @@ module _ (kind : Kind) where
     keys_only = λ k e. absurd (untouched k e);
     polled_sound = λ p e. absurd (both_ways (bit 0 p) (bit_zero p) e);
     polled_all = λ p k e. absurd (both_ways false refl (ap is_offered e));
-    numbers_there = λ p e. getD_blank 8 p 0;
-    open_idle = λ p e. getD_blank 8 p false;
-    engaged_voted = λ p e. absurd (both_ways (marked no_marks p) (getD_blank 8 p false) e);
+    numbers_there = λ p e. get_or-blank 8 p 0;
+    open_idle = λ p e. get_or-blank 8 p false;
+    engaged_voted = λ p e. absurd (both_ways (marked no_marks p) (get_or-blank 8 p false) e);
   }
 
   new_seen : transaction_of (new_transaction kind) ≡ protocol.begins (kind_of kind) true ((protocol.fresh).transaction 0)
   new_seen = λ i. record {
     kind = kind_of kind;
     status = protocol.Open;
-    reading = record { clock = λ q. getD_blank 8 q 0 i; read_at = λ q. getD_blank 8 q false i; noted = λ k. unnoted k i; noted_writer = λ k. no_value k i };
+    reading = record { clock = λ q. get_or-blank 8 q 0 i; read_at = λ q. get_or-blank 8 q false i; noted = λ k. unnoted k i; noted_writer = λ k. no_value k i };
     writing = record { wrote = λ k. unwritten k i; value = λ k. no_value k i };
-    outcome = record { refused = false; vote_clock = λ q. getD_blank 8 q 0 i; stamp = 0; commit_clock = λ q. getD_blank 8 q 0 i };
+    outcome = record { refused = false; vote_clock = λ q. get_or-blank 8 q 0 i; stamp = 0; commit_clock = λ q. get_or-blank 8 q 0 i };
   }
 
   new_participation : (q : ℕ) → participation_of (new_transaction kind) q ≡ (protocol.fresh).participation 0 q
-  new_participation q = λ i. record {
-    voted = getD_blank 8 q false i;
-    engaged = getD_blank 8 q false i;
-    number = getD_blank 8 q 0 i;
-    learned = getD_blank 8 q false i;
-    applied = getD_blank 8 q false i;
-  }
+  new_participation q = grind (arith, nat_tests)
 
 -- ── The world after ──
 
-abbrev begun_world : World → Kind → World
+abbrev pub begun_world : World → Kind → World
 begun_world w kind = record { nodes = w.nodes; transactions = w.transactions ++ new_transaction kind ∷ []; placement = w.placement; store = w.store }
-
--- What is shown of one transaction: it is the new one, or it is as before.
-shown_new : {X A : Type 0} (v : X → A) (d : A) (f : Bool → A → A) (same before after : Bool) (x x' y : X) →
-    (same ≡ true → (before ≡ false) × (after ≡ true) × (x' ≡ y)) → (same ≡ false → (after ≡ before) × (before ≡ true → x' ≡ x)) →
-    ((a : A) → f false a ≡ a) → v y ≡ f true d → cond after (v x') d ≡ f same (cond before (v x) d)
-shown_new v d f true before after x x' y here there rest e = let h = here refl in rw (h.0, h.1, h.2) e
-shown_new v d f false true after x x' y here there rest e = let h = there refl in rw (h.0, h.1 refl, rest (v x)) refl
-shown_new v d f false false after x x' y here there rest e = let h = there refl in rw (h.0, rest d) refl
 
 module _ (w : World) (kind : Kind) where
   count : length (w.transactions ++ new_transaction kind ∷ []) ≡ length w.transactions + 1
   count = length-append w.transactions (new_transaction kind ∷ [])
 
   -- It is the new one.
-  begun_here : (u : ℕ) → eqb (length w.transactions + 1) u ≡ true →
+  pub begun_here : (u : ℕ) → ((length w.transactions + 1) == u) ≡ true →
       (is_begun w u ≡ false) × (is_begun (begun_world w kind) u ≡ true) × (transaction (begun_world w kind) u ≡ new_transaction kind)
-  begun_here u e =
-      let h : length w.transactions + 1 ≡ u = eqb-true (length w.transactions + 1) u e in
-      let c = count in
-      (grind (arith, nat_tests), rw c (grind (arith, nat_tests)), get_or_at w.transactions (new_transaction kind) [] (new_transaction Search) (u - 1) (omega arith))
+  begun_here u e = grind (arith, nat_tests, common_steps)
 
   -- It is another.
-  begun_there : (u : ℕ) → eqb (length w.transactions + 1) u ≡ false →
+  pub begun_there : (u : ℕ) → ((length w.transactions + 1) == u) ≡ false →
       (is_begun (begun_world w kind) u ≡ is_begun w u) × (is_begun w u ≡ true → transaction (begun_world w kind) u ≡ transaction w u)
-  begun_there u e =
-      let c = count in
-      (rw c (grind (arith, nat_tests)), λ b. get_or_append_left w.transactions (new_transaction kind ∷ []) (new_transaction Search) (u - 1) (grind (arith, nat_tests)))
+  begun_there u e = grind (arith, nat_tests, common_steps)
 
   begun_seen : {A : Type 0} (v : Transaction → A) (d : A) (f : Bool → A → A) → ((a : A) → f false a ≡ a) → v (new_transaction kind) ≡ f true d → (u : ℕ) →
-      cond (is_begun (begun_world w kind) u) (v (transaction (begun_world w kind) u)) d ≡ f (eqb (length w.transactions + 1) u) (cond (is_begun w u) (v (transaction w u)) d)
-  begun_seen v d f rest e u =
-      shown_new v d f (eqb (length w.transactions + 1) u) (is_begun w u) (is_begun (begun_world w kind) u) (transaction w u) (transaction (begun_world w kind) u) (new_transaction kind)
-      (begun_here u) (begun_there u) rest e
+      cond (is_begun (begun_world w kind) u) (v (transaction (begun_world w kind) u)) d ≡ f ((length w.transactions + 1) == u) (cond (is_begun w u) (v (transaction w u)) d)
+  begun_seen v d f rest e u = grind (arith, nat_tests, common_steps)
 
   begun_view : view (begun_world w kind) ≡ protocol.change_transaction (length w.transactions + 1) (protocol.begins (kind_of kind)) (view w)
   begun_view =
@@ -121,15 +101,15 @@ module _ (w : World) (kind : Kind) where
   fits_all : Invariant w → (u : ℕ) → is_begun (begun_world w kind) u ≡ true → Fits w (transaction (begun_world w kind) u)
   fits_all now u b =
       ⊎_elim
-      (λ (e : eqb (length w.transactions + 1) u ≡ true). subst (λ (x : Transaction). Fits w x) (sym (begun_here u e).2) (fits_new kind w))
-      (λ (e : eqb (length w.transactions + 1) u ≡ false).
+      (λ (e : ((length w.transactions + 1) == u) ≡ true). subst (λ (x : Transaction). Fits w x) (sym (begun_here u e).2) (fits_new kind w))
+      (λ (e : ((length w.transactions + 1) == u) ≡ false).
       let before : is_begun w u ≡ true = sym (begun_there u e).0 ∙ b in
       subst (λ (x : Transaction). Fits w x) (sym ((begun_there u e).1 before)) (fits w u now before))
-      (cases_Bool (eqb (length w.transactions + 1) u))
+      (cases_Bool ((length w.transactions + 1) == u))
 
   -- The new one is engaged nowhere.
   writers_more : (p k : ℕ) (xs : List Transaction) → engaged_writers w p k (xs ++ new_transaction kind ∷ []) ≡ engaged_writers w p k xs
-  writers_more p k [] = rw (getD_blank 8 p false) refl
+  writers_more p k [] = rw (get_or-blank 8 p false) refl
   writers_more p k (x ∷ xs) = ap (λ (n : ℕ). cond (marked x.engaged p && (wrote x k && holds w p k)) 1 0 + n) (writers_more p k xs)
 
   begun_keeps : Invariant w → length w.transactions < 255 → Invariant (begun_world w kind)
@@ -155,7 +135,7 @@ module _ (w : World) (kind : Kind) where
 
   begun_now : (mode : ℕ) → Invariant w → GoodOutcome w (begin mode) (begin_call w kind)
   begun_now mode now =
-      checked (ltb (length w.transactions) 255) w (begin mode) NumbersUsedUp (Begun (length w.transactions + 1), begun_world w kind) now
+      checked (nat_lt (length w.transactions) 255) w (begin mode) NumbersUsedUp (Begun (length w.transactions + 1), begun_world w kind) now
       (λ room. record {
         same_placement = refl;
         keeps = begun_keeps now (ltb-true (length w.transactions) 255 room);

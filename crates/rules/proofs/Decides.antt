@@ -1,8 +1,10 @@
 -- Decide: an offered update is committed or aborted.
 use Rattle.std.proofs.Common.{◌≡◌, ℕ, ◌<◌, ◌≤◌, max, Bool, true, false, cond, not, ◌||◌, ◌⊎◌, length, sym, refl, ap, ◌∙◌, subst, inl, inr, ⊎_elim, arith}
 use Rattle.std.proofs.lemmas.List.{get_or_past}
-use Rattle.std.proofs.lemmas.List.FromFn.{length-map-range_with_len, get_or-map-range_with_len}
 use Rattle.std.proofs.lemmas.Bool.{cases_Bool, cases_lt, cond-true, cond-false, both_ways, false≢true, or_cases, not_from_true}
+use Rattle.std.proofs.lemmas.Bool.Decides.{nat_tests}
+use Rattle.std.proofs.lemmas.Grind.{common_steps}
+use Rattle.clock.proofs.Joins.{length-join, slot_join}
 use Rattle.calls.specs.declared.answer.Answer.TheVariants.{Committed as answered_commit, Aborted as answered_abort}
 use Rattle.calls.specs.declared.refusal.Refusal.TheVariants.{NoSuchTransaction, WrongState, VotesOutstanding}
 use Rattle.calls.specs.Requests.{decide}
@@ -24,7 +26,7 @@ use Rattle.rules.proofs.States.{offered_is, some_has, some_from, all_has, write_
 use Rattle.rules.proofs.Keeping.{fits, keeps_transaction}
 use Rattle.rules.proofs.Later.{Later, later_fits}
 use Rattle.rules.proofs.Least.{stamp_number_least}
-use Rattle.rules.proofs.MoreViews.{length-join, slot_join, touched_view, write_node_view, write_node_world, no_write_node_view}
+use Rattle.rules.proofs.MoreViews.{touched_view, write_node_view, write_node_world, no_write_node_view}
 
 module _ (w : World) (inv : Invariant w) (t : ℕ) (begun : is_begun w t ≡ true) (offered : (transaction w t).state ≡ Offered) where
   abbrev x : Transaction
@@ -36,18 +38,7 @@ module _ (w : World) (inv : Invariant w) (t : ℕ) (begun : is_begun w t ≡ tru
   -- ── Abort ──
 
   aborted_later : Later w x (becomes Aborted x)
-  aborted_later =
-      let s = inv.shaped t begun in
-      record {
-        shaped = record { clock = s.clock; read = s.read; noted = s.noted; written = s.written; voted = s.voted; engaged = s.engaged; numbers = s.numbers; votes = s.votes; learned = s.learned; applied = s.applied; commit = s.commit };
-        noted_same = refl;
-        written_same = refl;
-        polled_same = refl;
-        offered = λ e. absurd (false≢true (ap is_offered e));
-        closed = λ e. false≢true (ap is_open e);
-        numbers = λ p h. inv.numbers_there t p begun h;
-        voted = λ p h. inv.engaged_voted t p begun h;
-      }
+  aborted_later = grind (arith, nat_tests)
 
   abort_good : x.refused ≡ true → GoodOutcome w (decide t) (answered_abort, with_transaction w t (becomes Aborted x))
   abort_good refused =
@@ -127,11 +118,11 @@ module _ (w : World) (inv : Invariant w) (t : ℕ) (begun : is_begun w t ≡ tru
 
   length_stamped : (n : ℕ) → length (stamped w x n) ≡ 8
   unfolding stamped
-  length_stamped n = length-map-range_with_len (λ q. cond (is_write_node w x q) n (slot (base_clock x) q)) 0 8
+  length_stamped n = grind (arith, nat_tests)
 
   slot_stamped : (n q : ℕ) → q < 8 → slot (stamped w x n) q ≡ cond (is_write_node w x q) n (slot (base_clock x) q)
   unfolding stamped
-  slot_stamped n q l = get_or-map-range_with_len (λ i. cond (is_write_node w x i) n (slot (base_clock x) i)) 0 8 q q 0 l (omega arith)
+  slot_stamped n q l = grind (arith, nat_tests)
 
   slots : (n q : ℕ) →
       (protocol.WriteNode (placed w.placement) (view w) t q × (slot (stamped w x n) q ≡ n))
@@ -177,7 +168,7 @@ module _ (w : World) (inv : Invariant w) (t : ℕ) (begun : is_begun w t ≡ tru
               protocol.commit t n (λ q. slot (stamped w x n) q),
               record {
                 offered = status_offered;
-                agreed = ap (λ (a : protocol.Transaction). a.outcome.refused) (view_begun w t begun) ∙ agreed;
+                agreed = grind (arith, nat_tests, common_steps);
                 complete = complete all;
                 stamped = λ p h. subst (λ (m : ℕ). protocol.LeastStamp (placed w.placement) 256 (view w) t m) (sym n_is) (stamp_stands p h);
                 unwritten = λ none. n_is ∙ no_stamp none;

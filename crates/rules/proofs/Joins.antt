@@ -1,47 +1,32 @@
 -- The clock of a transaction after a read: which commit clocks pass, and what their join is.
-use Rattle.std.proofs.Common.{◌≡◌, ℕ, zero, suc, ◌+◌, ◌-◌, ◌<◌, ◌≤◌, max, Bool, true, false, cond, ◌&&◌, eqb, ◌⊎◌, List, [], ◌∷◌, length, get_or, Decides, fold, sym, refl, ap, ◌∙◌, subst, inl, inr, ⊎_elim, arith}
-use Rattle.std.proofs.lemmas.List.{get_or_past}
-use Rattle.std.proofs.lemmas.List.FromFn.{length-map-range_with_len, get_or-map-range_with_len}
-use Rattle.std.proofs.lemmas.Bool.{and_parts, and_from, le-leb, cases_lt, cases_eq, cases_Bool, both_ways, ne_eqb, cond-false}
-use Rattle.std.proofs.lemmas.Bool.Decides.{nat_tests, Decides-below_and}
-use Rattle.clock.specs.Clocks.{slot, join, marked, slot_passes, passes_below, passes}
+use Rattle.std.proofs.Common.{◌≡◌, ℕ, zero, suc, ◌+◌, ◌-◌, ◌<◌, ◌≤◌, max, Bool, true, false, cond, ◌&&◌, ◌⊎◌, List, [], ◌∷◌, length, slice_index_or, Decides, fold, sym, refl, ap, ◌∙◌, subst, inl, inr, ⊎_elim, arith, ◌==◌}
+use Rattle.std.proofs.lemmas.Bool.{and_parts, and_from, cases_lt, cases_Bool, both_ways, cond-false}
+use Rattle.std.proofs.lemmas.Bool.Decides.{nat_tests}
+use Rattle.std.proofs.lemmas.Grind.{common_steps}
+use Rattle.clock.proofs.Joins.{length-join, slot_past}
+use Rattle.clock.proofs.Passing.{passes_decides}
+use Rattle.clock.specs.Clocks.{slot, join, marked, passes}
 use Rattle.history.specs.Protocol as protocol
 use Rattle.rules.specs.declared.records.Kind.TheVariants.{Search}
 use Rattle.rules.specs.declared.records.Transaction.{Transaction}
 use Rattle.rules.specs.World.{World, is_begun, transaction, zero_clock, new_transaction}
 use Rattle.rules.specs.Reading.{commit_clock, clock_after}
-use Rattle.rules.proofs.View.{view, transaction_of, participation_of}
+use Rattle.rules.proofs.View.{view}
 use Rattle.rules.proofs.Invariant.{Invariant}
 use Rattle.rules.proofs.Views.{view_begun, participation_begun, begun_place}
-use Rattle.rules.proofs.Begins.{getD_blank}
 
 -- ── Clocks that pass ──
 
 -- Only nodes below 8 are marked.
 pub marked_below : (row : List Bool) (q : ℕ) → length row ≡ 8 → marked row q ≡ true → q < 8
-marked_below row q wide e =
-    ⊎_elim (λ (l : q < 8). l) (λ (l : 8 ≤ q). absurd (both_ways (marked row q) (get_or_past row q false (omega arith)) e)) (cases_lt q 8)
-
-slot_decides : (read : List Bool) (commit clock : List ℕ) (q : ℕ) → Decides (slot_passes read commit clock q) (marked read q ≡ true → slot commit q ≤ slot clock q)
-slot_decides read commit clock q =
-    (λ e m. grind (arith, nat_tests), λ h. ⊎_elim (λ (m : marked read q ≡ true). rw m (le-leb (slot commit q) (slot clock q) (h m))) (λ (m : marked read q ≡ false). rw m refl) (cases_Bool (marked read q)))
+marked_below row q wide e = grind (arith, nat_tests, common_steps)
 
 pub pass_decides : (read : List Bool) (commit clock : List ℕ) → length read ≡ 8 → Decides (passes read commit clock) ((q : ℕ) → marked read q ≡ true → slot commit q ≤ slot clock q)
-unfolding passes
 pass_decides read commit clock wide =
-    let below = Decides-below_and (slot_passes read commit clock) (λ q. marked read q ≡ true → slot commit q ≤ slot clock q) (λ n. passes_below n read commit clock) (slot_decides read commit clock) refl (λ n. refl) 8 in
+    let below = passes_decides read commit clock in
     (λ e q m. below.0 e q (marked_below read q wide m) m, λ h. below.1 (λ q l m. h q m))
 
 -- ── A join of many clocks ──
-
-pub slot_join : (a b : List ℕ) (q : ℕ) → q < 8 → slot (join a b) q ≡ max (slot a q) (slot b q)
-slot_join a b q l = get_or-map-range_with_len (λ q. max (slot a q) (slot b q)) 0 8 q q 0 l (omega arith)
-
-pub length-join : (a b : List ℕ) → length (join a b) ≡ 8
-length-join a b = length-map-range_with_len (λ q. max (slot a q) (slot b q)) 0 8
-
-pub slot_past : (a : List ℕ) (q : ℕ) → length a ≡ 8 → 8 ≤ q → slot a q ≡ 0
-slot_past a q wide l = get_or_past a q 0 (omega arith)
 
 module _ (test : Transaction → Bool) where
   -- The clocks of those that pass the test, joined to a clock.
@@ -56,7 +41,7 @@ module _ (test : Transaction → Bool) where
 
   -- One more is joined in, or not.
   one_joined : (joined : List ℕ) (u : Transaction) (q : ℕ) → q < 8 → slot (joined_by joined u) q ≡ cond (test u) (max (slot joined q) (slot u.commit q)) (slot joined q)
-  one_joined joined u q l = ⊎_elim (λ (e : test u ≡ true). rw e (slot_join joined u.commit q l)) (λ (e : test u ≡ false). rw e refl) (cases_Bool (test u))
+  one_joined joined u q l = grind (arith, nat_tests)
 
   pub joined_above : (joined : List ℕ) (us : List Transaction) (q : ℕ) → q < 8 → slot joined q ≤ slot (fold joined_by joined us) q
   joined_above joined [] q l = omega arith
@@ -66,8 +51,8 @@ module _ (test : Transaction → Bool) where
       ⊎_elim (λ (e : test u ≡ true). let now : slot (joined_by joined u) q ≡ max (slot joined q) (slot u.commit q) = here ∙ rw e refl in omega arith)
       (λ (e : test u ≡ false). let now : slot (joined_by joined u) q ≡ slot joined q = here ∙ rw e refl in omega arith) (cases_Bool (test u))
 
-  pub joined_takes : (joined : List ℕ) (us : List Transaction) (i q : ℕ) (d : Transaction) → q < 8 → i < length us → test (get_or us i d) ≡ true →
-      slot (get_or us i d).commit q ≤ slot (fold joined_by joined us) q
+  pub joined_takes : (joined : List ℕ) (us : List Transaction) (i q : ℕ) (d : Transaction) → q < 8 → i < length us → test (slice_index_or us i d) ≡ true →
+      slot (slice_index_or us i d).commit q ≤ slot (fold joined_by joined us) q
   joined_takes joined [] i q d l below e = absurd (omega arith)
   joined_takes joined (u ∷ us) zero q d l below e =
       let rest = joined_above (joined_by joined u) us q l in
@@ -77,7 +62,7 @@ module _ (test : Transaction → Bool) where
 
   pub joined_least : (joined : List ℕ) (us : List Transaction) (q : ℕ) (d : Transaction) → q < 8 →
       (slot (fold joined_by joined us) q ≡ slot joined q)
-      ⊎ ((i : ℕ) × (i < length us) × (test (get_or us i d) ≡ true) × (slot (fold joined_by joined us) q ≡ slot (get_or us i d).commit q))
+      ⊎ ((i : ℕ) × (i < length us) × (test (slice_index_or us i d) ≡ true) × (slot (fold joined_by joined us) q ≡ slot (slice_index_or us i d).commit q))
   joined_least joined [] q d l = inl refl
   joined_least joined (u ∷ us) q d l =
       ⊎_elim
@@ -88,42 +73,21 @@ module _ (test : Transaction → Bool) where
       ⊎_elim (λ (m : slot joined q < slot u.commit q). inr (0, omega arith, h, omega arith)) (λ (m : slot u.commit q ≤ slot joined q). inl (omega arith)) (cases_lt (slot joined q) (slot u.commit q)))
       (λ (h : test u ≡ false). inl (e ∙ one_joined joined u q l ∙ rw h refl))
       (cases_Bool (test u)))
-      (λ (f : (i : ℕ) × (i < length us) × (test (get_or us i d) ≡ true) × (slot (fold joined_by (joined_by joined u) us) q ≡ slot (get_or us i d).commit q)).
+      (λ (f : (i : ℕ) × (i < length us) × (test (slice_index_or us i d) ≡ true) × (slot (fold joined_by (joined_by joined u) us) q ≡ slot (slice_index_or us i d).commit q)).
       inr (suc f.0, omega (arith, f.1), f.2, f.3))
       (joined_least (joined_by joined u) us q d l)
 
 -- ── In a world ──
 
--- A transaction that is not begun has the commit clock of one that has just begun.
-unbegun_commit : (w : World) (u q : ℕ) → is_begun w u ≡ false → slot (commit_clock w u) q ≡ 0
-unbegun_commit w u q b =
-    ⊎_elim
-    (λ (e : u ≡ 0). rw e (getD_blank 8 q 0))
-    (λ (n : u ≡ 0 → ⊥).
-    let far : length w.transactions ≤ u - 1 = grind (arith, nat_tests) in
-    let none : transaction w u ≡ new_transaction Search = get_or_past w.transactions (u - 1) (new_transaction Search) far in
-    rw (ne_eqb u 0 n, none) (getD_blank 8 q 0))
-    (cases_eq u 0)
-
 begun_commit : (w : World) (u : ℕ) → is_begun w u ≡ true → commit_clock w u ≡ (transaction w u).commit
-begun_commit w u b = cond-false (eqb u 0) zero_clock (transaction w u).commit (grind (arith, nat_tests))
+begun_commit w u b = cond-false (u == 0) zero_clock (transaction w u).commit (grind (arith, nat_tests))
 
 -- The commit clock of any writer, begun or not.
 pub commit_seen : (w : World) (u q : ℕ) → protocol.commit_clock (view w) u q ≡ slot (commit_clock w u) q
-commit_seen w u q =
-    ⊎_elim
-    (λ (b : is_begun w u ≡ true). ap (λ (x : protocol.Transaction). x.outcome.commit_clock q) (view_begun w u b) ∙ ap (λ (c : List ℕ). slot c q) (sym (begun_commit w u b)))
-    (λ (b : is_begun w u ≡ false).
-    ap (λ (x : protocol.Transaction). x.outcome.commit_clock q) (cond-false (is_begun w u) (transaction_of (transaction w u)) ((protocol.fresh).transaction u) b) ∙ sym (unbegun_commit w u q b))
-    (cases_Bool (is_begun w u))
+commit_seen w u q = grind (arith, nat_tests, common_steps)
 
 pub applied_seen : (w : World) (u p : ℕ) → protocol.applied (view w) u p ≡ true → (is_begun w u ≡ true) × (marked (transaction w u).applied p ≡ true)
-applied_seen w u p e =
-    ⊎_elim
-    (λ (b : is_begun w u ≡ true). (b, sym (ap (λ (x : protocol.Participation). x.applied) (participation_begun w u p b)) ∙ e))
-    (λ (b : is_begun w u ≡ false).
-    absurd (both_ways false refl (sym (ap (λ (x : protocol.Participation). x.applied) (cond-false (is_begun w u) (participation_of (transaction w u) p) ((protocol.fresh).participation u p) b)) ∙ e)))
-    (cases_Bool (is_begun w u))
+applied_seen w u p e = grind (arith, nat_tests)
 
 module _ (w : World) (t p : ℕ) (now : Invariant w) (begun : is_begun w t ≡ true) where
   pub clock_seen : (q : ℕ) → protocol.clock (view w) t q ≡ slot (transaction w t).clock q
@@ -182,14 +146,14 @@ module _ (w : World) (t p : ℕ) (now : Invariant w) (begun : is_begun w t ≡ t
       ⊎_elim
       (λ (l : q < 8).
       ⊎_elim inl
-      (λ (f : (i : ℕ) × (i < length w.transactions) × (joins_in (get_or w.transactions i (new_transaction Search)) ≡ true) × (slot joined_clock q ≡ slot (get_or w.transactions i (new_transaction Search)).commit q)).
+      (λ (f : (i : ℕ) × (i < length w.transactions) × (joins_in (slice_index_or w.transactions i (new_transaction Search)) ≡ true) × (slot joined_clock q ≡ slot (slice_index_or w.transactions i (new_transaction Search)).commit q)).
       let below = f.1 in
       let e : f.0 + 1 - 1 ≡ f.0 = omega arith in
       inr (
         f.0 + 1,
         grind (arith, nat_tests),
-        subst (λ (i : ℕ). joins_in (get_or w.transactions i (new_transaction Search)) ≡ true) (sym e) f.2,
-        subst (λ (i : ℕ). slot joined_clock q ≡ slot (get_or w.transactions i (new_transaction Search)).commit q) (sym e) f.3,
+        subst (λ (i : ℕ). joins_in (slice_index_or w.transactions i (new_transaction Search)) ≡ true) (sym e) f.2,
+        subst (λ (i : ℕ). slot joined_clock q ≡ slot (slice_index_or w.transactions i (new_transaction Search)).commit q) (sym e) f.3,
       ))
       (joined_least joins_in (transaction w t).clock w.transactions q (new_transaction Search) l))
       (λ (l : 8 ≤ q). inl (slot_past joined_clock q (joined_length joins_in (transaction w t).clock w.transactions (now.shaped t begun).clock) l ∙ sym (slot_past (transaction w t).clock q (now.shaped t begun).clock l)))

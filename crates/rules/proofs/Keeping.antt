@@ -1,6 +1,7 @@
 -- The invariant after one transaction, some nodes and the store have changed.
-use Rattle.std.proofs.Common.{◌≡◌, ℕ, ◌+◌, ◌-◌, ◌<◌, ◌≤◌, Bool, true, false, cond, ◌||◌, List, [], ◌∷◌, ◌++◌, length, get_or, set, sym, refl, ap, subst, arith}
-use Rattle.std.proofs.lemmas.List.{length-set}
+use Rattle.std.proofs.Common.{◌≡◌, ℕ, ◌+◌, ◌-◌, ◌<◌, Bool, true, false, cond, ◌||◌, List, [], ◌∷◌, ◌++◌, length, slice_index_or, slice_set, sym, refl, ap, arith}
+use Rattle.std.proofs.lemmas.Bool.Decides.{nat_tests}
+use Rattle.std.proofs.lemmas.Grind.{common_steps}
 use Rattle.clock.specs.Clocks.{slot, marked}
 use Rattle.store.specs.Model.{Meaning, first_version}
 use Rattle.rules.specs.declared.records.State.TheVariants.{Open, Offered}
@@ -22,21 +23,13 @@ pub record Fits (w : World) (x : Transaction) : Type 0 where
   pub engaged_voted : (p : ℕ) → marked x.engaged p ≡ true → marked x.voted p ≡ true
 
 pub fits : (w : World) (t : ℕ) → Invariant w → is_begun w t ≡ true → Fits w (transaction w t)
-fits w t holds_now begun = record {
-  shaped = holds_now.shaped t begun;
-  keys_only = λ k. holds_now.keys_only t k begun;
-  polled_sound = λ p. holds_now.polled_sound t p begun;
-  polled_all = λ p k. holds_now.polled_all t p k begun;
-  numbers_there = λ p. holds_now.numbers_there t p begun;
-  open_idle = λ p. holds_now.open_idle t p begun;
-  engaged_voted = λ p. holds_now.engaged_voted t p begun;
-}
+fits w t holds_now begun = grind (arith, nat_tests)
 
 abbrev pub changed_world : World → List Node → ℕ → Transaction → Meaning → World
-changed_world w nodes t y store = record { nodes = nodes; transactions = set w.transactions (t - 1) y; placement = w.placement; store = store }
+changed_world w nodes t y store = record { nodes = nodes; transactions = slice_set w.transactions (t - 1) y; placement = w.placement; store = store }
 
 pub keeps_change : (w : World) (nodes : List Node) (t : ℕ) (y : Transaction) (store : Meaning) → Invariant w → is_begun w t ≡ true →
-    length nodes ≡ length w.nodes → ((p : ℕ) → p < length w.nodes → length (get_or nodes p new_node).seen ≡ 8) → Fits w y →
+    length nodes ≡ length w.nodes → ((p : ℕ) → p < length w.nodes → length (slice_index_or nodes p new_node).seen ≡ 8) → Fits w y →
     ((p k : ℕ) → without_last (store p k).versions ++ first_version ∷ [] ≡ (store p k).versions) →
     ((p k : ℕ) → (store p k).aside + cond (engaged_writer w p k (transaction w t)) 1 0 ≡ (w.store p k).aside + cond (engaged_writer w p k y) 1 0) →
     Invariant (changed_world w nodes t y store)
@@ -45,20 +38,20 @@ keeps_change w nodes t y store now begun same_count seen fit first_last asides =
     let all : (u : ℕ) → is_begun (changed_world w nodes t y store) u ≡ true → Fits w (transaction (changed_world w nodes t y store) u) =
     transaction_cases w t y (λ (u : ℕ) (x : Transaction). Fits w x) begun fit (λ u b. fits w u now b) in
     record {
-      some_nodes = subst (λ (n : ℕ). 0 < n) (sym same_count) now.some_nodes;
-      few_nodes = subst (λ (n : ℕ). n ≤ 8) (sym same_count) now.few_nodes;
+      some_nodes = grind (arith, nat_tests, common_steps);
+      few_nodes = grind (arith, nat_tests, common_steps);
       few_keys = now.few_keys;
-      few_transactions = subst (λ (n : ℕ). n ≤ 255) (sym (length-set w.transactions (t - 1) y)) now.few_transactions;
+      few_transactions = grind (arith, nat_tests, common_steps);
       has_holder = now.has_holder;
-      holders = λ p k h. (subst (λ (n : ℕ). p < n) (sym same_count) (now.holders p k h).0, (now.holders p k h).1);
-      seen = λ p l. seen p (subst (λ (n : ℕ). p < n) same_count l);
+      holders = λ p k h. grind (arith, nat_tests, common_steps);
+      seen = λ p l. grind (arith, nat_tests, common_steps);
       shaped = λ u b. (all u b).shaped;
       keys_only = λ u k b. (all u b).keys_only k;
       polled_sound = λ u p b. (all u b).polled_sound p;
       polled_all = λ u p k b. (all u b).polled_all p k;
       numbers_there = λ u p b. (all u b).numbers_there p;
       first_last = first_last;
-      places = λ p k. omega (arith, asides p k, now.places p k, engaged_writers_after w t y p k begun, engaged_writers_placement (changed_world w nodes t y store) (with_transaction w t y) p k (set w.transactions (t - 1) y) refl);
+      places = λ p k. omega (arith, asides p k, now.places p k, engaged_writers_after w t y p k begun, engaged_writers_placement (changed_world w nodes t y store) (with_transaction w t y) p k (slice_set w.transactions (t - 1) y) refl);
       open_idle = λ u p b. (all u b).open_idle p;
       engaged_voted = λ u p b. (all u b).engaged_voted p;
     }

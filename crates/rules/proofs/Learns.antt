@@ -1,7 +1,10 @@
 -- Learn: a node learns the decision on an update that polls it.
-use Rattle.std.proofs.Common.{◌≡◌, ℕ, ◌<◌, max, Bool, true, false, cond, not, ◌&&◌, eqb, [], ◌∷◌, ◌++◌, map, length, set, sym, refl, ap, ◌∙◌, subst, inr, ⊎_elim, arith}
+use Rattle.std.proofs.Common.{◌≡◌, ℕ, ◌<◌, max, Bool, true, false, cond, not, ◌&&◌, [], ◌∷◌, ◌++◌, map, length, slice_set, sym, refl, ap, ◌∙◌, subst, inr, ⊎_elim, arith, ◌==◌}
 use Rattle.std.proofs.lemmas.List.{length-set}
-use Rattle.std.proofs.lemmas.Bool.{cases_Bool, both_ways, false≢true, and_parts, and_left, and_right, ltb-true, not-true, ne_eqb, cond-false}
+use Rattle.std.proofs.lemmas.Bool.{cases_Bool, both_ways, false≢true, and_parts, and_left, and_right, ltb-true, not-true}
+use Rattle.std.proofs.lemmas.Bool.Decides.{nat_tests}
+use Rattle.std.proofs.lemmas.Grind.{common_steps}
+use Rattle.clock.proofs.Joins.{length-join}
 use Rattle.calls.specs.declared.answer.Answer.TheVariants.{Done}
 use Rattle.calls.specs.declared.refusal.Refusal.TheVariants.{NoSuchTransaction, NoSuchNode, WrongState, NotPolled, AlreadyDone}
 use Rattle.calls.specs.Requests.{learn}
@@ -21,12 +24,12 @@ use Rattle.rules.specs.Applying.{has_seen, learn_by, learn_commit}
 use Rattle.rules.proofs.View.{view, placed, participation_of, status_of, version_of, without_last}
 use Rattle.rules.proofs.Invariant.{Invariant, Shaped, GoodStep}
 use Rattle.rules.proofs.Checks.{GoodOutcome, good_step, checked, refused}
-use Rattle.rules.proofs.Views.{marked_set, slot_set, view_begun, participation_begun, view_node}
+use Rattle.rules.proofs.Views.{marked_set, slot_set, view_node}
 use Rattle.rules.proofs.Keeping.{fits, keeps_change}
 use Rattle.rules.proofs.Later.{Later, later_fits}
 use Rattle.rules.proofs.States.{write_node_from}
 use Rattle.rules.proofs.Places.{back_versions, back_balance, idle_balance}
-use Rattle.rules.proofs.MoreViews.{length-join, view_changed, write_node_view, no_write_node_view, polled_view, seen_after, below_eight, stamp_view, seen_view, released_row, engaged_before}
+use Rattle.rules.proofs.MoreViews.{view_changed, write_node_view, no_write_node_view, seen_after, below_eight, stamp_view, seen_view, released_row}
 
 module _ (w : World) (inv : Invariant w) (t p : ℕ) (begun : is_begun w t ≡ true) (there : is_node w p ≡ true) (polled : bit (transaction w t).polled p ≡ true) (unlearned : marked (transaction w t).learned p ≡ false) where
   abbrev x : Transaction
@@ -39,12 +42,7 @@ module _ (w : World) (inv : Invariant w) (t p : ℕ) (begun : is_begun w t ≡ t
   below = below_eight w inv t p begun there
 
   may_learn : (state : State) → x.state ≡ state → protocol.MayLearn (placed w.placement) (view w) t p (status_of state)
-  may_learn state is =
-      record {
-        decided = ap (λ (a : protocol.Transaction). a.status) (view_begun w t begun) ∙ ap status_of is;
-        polled = polled_view w inv t begun p polled;
-        unlearned = ap (λ (a : protocol.Participation). a.learned) (participation_begun w t p begun) ∙ unlearned;
-      }
+  may_learn state is = grind (arith, nat_tests)
 
   -- ── p releases t ──
 
@@ -52,21 +50,11 @@ module _ (w : World) (inv : Invariant w) (t p : ℕ) (begun : is_begun w t ≡ t
   released = is_learned p (is_released p x)
 
   released_later : (x.state ≡ Offered → ⊥) → (x.state ≡ Open → ⊥) → Later w x released
-  released_later not_offered not_open =
-      record {
-        shaped = record { clock = shape.clock; read = shape.read; noted = shape.noted; written = shape.written; voted = shape.voted; engaged = length-set x.engaged p false ∙ shape.engaged; numbers = shape.numbers; votes = shape.votes; learned = length-set x.learned p true ∙ shape.learned; applied = shape.applied; commit = shape.commit };
-        noted_same = refl;
-        written_same = refl;
-        polled_same = refl;
-        offered = λ e. e;
-        closed = not_open;
-        numbers = λ q h. inv.numbers_there t q begun h;
-        voted = λ q h. inv.engaged_voted t q begun (engaged_before w inv t p begun there q h);
-      }
+  released_later not_offered not_open = grind (arith, nat_tests, common_steps)
 
-  released_view : (q : ℕ) → participation_of released q ≡ protocol.releases (eqb p q) (protocol.learns (eqb p q) (participation_of x q))
+  released_view : (q : ℕ) → participation_of released q ≡ protocol.releases (p == q) (protocol.learns (p == q) (participation_of x q))
   released_view q =
-      let learned : marked (set x.learned p true) q ≡ cond (eqb p q) true (marked x.learned q) = marked_set x.learned p q true (let l = shape.learned in let b = below in omega arith) in
+      let learned : marked (slice_set x.learned p true) q ≡ cond (p == q) true (marked x.learned q) = marked_set x.learned p q true (let l = shape.learned in let b = below in omega arith) in
       λ i. record { voted = marked x.voted q; engaged = released_row w inv t p begun there q i; number = slot x.numbers q; learned = learned i; applied = marked x.applied q }
 
   -- ── An abort ──
@@ -110,27 +98,13 @@ module _ (w : World) (inv : Invariant w) (t p : ℕ) (begun : is_begun w t ≡ t
   stamped = stamp_view w inv t p begun there
 
   restamped_later : x.state ≡ Committed → is_write_node w x p ≡ true → Later w x restamped
-  restamped_later is writes =
-      record {
-        shaped = record { clock = shape.clock; read = shape.read; noted = shape.noted; written = shape.written; voted = shape.voted; engaged = shape.engaged; numbers = length-set x.numbers p x.stamp ∙ shape.numbers; votes = shape.votes; learned = length-set x.learned p true ∙ shape.learned; applied = shape.applied; commit = shape.commit };
-        noted_same = refl;
-        written_same = refl;
-        polled_same = refl;
-        offered = λ e. e;
-        closed = λ e. false≢true (ap is_open (sym is ∙ e));
-        numbers =
-            λ q h.
-            slot_set x.numbers p q x.stamp (let l = shape.numbers in let b = below in omega arith)
-            ∙ cond-false (eqb p q) x.stamp (slot x.numbers q) (ne_eqb p q (λ e. both_ways (is_write_node w x q) h (subst (λ (r : ℕ). is_write_node w x r ≡ true) e writes)))
-            ∙ inv.numbers_there t q begun h;
-        voted = λ q h. inv.engaged_voted t q begun h;
-      }
+  restamped_later is writes = grind (arith, nat_tests, common_steps)
 
-  restamped_view : (q : ℕ) → participation_of restamped q ≡ protocol.takes_number (protocol.stamp (view w) t) (eqb p q) (protocol.learns (eqb p q) (participation_of x q))
+  restamped_view : (q : ℕ) → participation_of restamped q ≡ protocol.takes_number (protocol.stamp (view w) t) (p == q) (protocol.learns (p == q) (participation_of x q))
   restamped_view q =
-      let number : slot (set x.numbers p x.stamp) q ≡ cond (eqb p q) (protocol.stamp (view w) t) (slot x.numbers q) =
-      slot_set x.numbers p q x.stamp (let l = shape.numbers in let b = below in omega arith) ∙ ap (λ (n : ℕ). cond (eqb p q) n (slot x.numbers q)) (sym stamped) in
-      let learned : marked (set x.learned p true) q ≡ cond (eqb p q) true (marked x.learned q) = marked_set x.learned p q true (let l = shape.learned in let b = below in omega arith) in
+      let number : slot (slice_set x.numbers p x.stamp) q ≡ cond (p == q) (protocol.stamp (view w) t) (slot x.numbers q) =
+      slot_set x.numbers p q x.stamp (let l = shape.numbers in let b = below in omega arith) ∙ ap (λ (n : ℕ). cond (p == q) n (slot x.numbers q)) (sym stamped) in
+      let learned : marked (slice_set x.learned p true) q ≡ cond (p == q) true (marked x.learned q) = marked_set x.learned p q true (let l = shape.learned in let b = below in omega arith) in
       λ i. record { voted = marked x.voted q; engaged = marked x.engaged q; number = number i; learned = learned i; applied = marked x.applied q }
 
   abbrev raised : Node
@@ -141,16 +115,16 @@ module _ (w : World) (inv : Invariant w) (t p : ℕ) (begun : is_begun w t ≡ t
       record {
         same_placement = refl;
         keeps =
-            keeps_change w (set w.nodes p raised) t restamped w.store inv begun (length-set w.nodes p raised)
+            keeps_change w (slice_set w.nodes p raised) t restamped w.store inv begun (length-set w.nodes p raised)
             (seen_after w p raised inv there (inv.seen p (ltb-true p (length w.nodes) there)))
             (later_fits w x restamped (fits w t inv begun) (restamped_later is writes)) inv.first_last (λ q k. refl);
         refines =
             inr (
               protocol.learn_write t p,
               (may_learn Committed is, write_node_view w inv t begun p writes),
-              view_changed w (set w.nodes p raised) t restamped w.store begun (λ here a. a) p
+              view_changed w (slice_set w.nodes p raised) t restamped w.store begun (λ here a. a) p
                   (λ here a. protocol.takes_number (protocol.stamp (view w) t) here (protocol.learns here a))
-                  (λ q. protocol.counts (max (protocol.counter (view w) p) (protocol.stamp (view w) t)) (eqb p q) ((view w).node q)) (view w).chain
+                  (λ q. protocol.counts (max (protocol.counter (view w) p) (protocol.stamp (view w) t)) (p == q) ((view w).node q)) (view w).chain
                   (λ a. refl) refl (λ a. refl) restamped_view
                   (view_node w p raised (protocol.counts (max (protocol.counter (view w) p) (protocol.stamp (view w) t))) there (λ a. refl)
                   (λ i. record { counter = max (node w p).counter (sym stamped i); frontier = (node w p).frontier; seen = λ q. slot (node w p).seen q }))
@@ -181,7 +155,7 @@ module _ (w : World) (inv : Invariant w) (t p : ℕ) (begun : is_begun w t ≡ t
       record {
         same_placement = refl;
         keeps =
-            keeps_change w (set w.nodes p informed) t released w.store inv begun (length-set w.nodes p informed)
+            keeps_change w (slice_set w.nodes p informed) t released w.store inv begun (length-set w.nodes p informed)
             (seen_after w p informed inv there (length-join (node w p).seen x.commit))
             (later_fits w x released (fits w t inv begun) (released_later (λ e. false≢true (ap is_offered (sym is ∙ e))) (λ e. false≢true (ap is_open (sym is ∙ e)))))
             inv.first_last (idle_balance w inv t p begun (let l = shape.engaged in let b = below in omega arith) (nothing_there none));
@@ -189,9 +163,9 @@ module _ (w : World) (inv : Invariant w) (t p : ℕ) (begun : is_begun w t ≡ t
             inr (
               protocol.learn_read t p,
               (may_learn Committed is, no_write_node_view w inv t begun p none),
-              view_changed w (set w.nodes p informed) t released w.store begun (λ here a. a) p
+              view_changed w (slice_set w.nodes p informed) t released w.store begun (λ here a. a) p
                   (λ here a. protocol.releases here (protocol.learns here a))
-                  (λ q. protocol.sees (protocol.join (protocol.seen (view w) p) (protocol.commit_clock (view w) t)) (eqb p q) ((view w).node q)) (view w).chain
+                  (λ q. protocol.sees (protocol.join (protocol.seen (view w) p) (protocol.commit_clock (view w) t)) (p == q) ((view w).node q)) (view w).chain
                   (λ a. refl) refl (λ a. refl) released_view
                   (view_node w p informed (protocol.sees (protocol.join (protocol.seen (view w) p) (protocol.commit_clock (view w) t))) there (λ a. refl)
                   (λ i. record { counter = (node w p).counter; frontier = (node w p).frontier; seen = λ q. seen_view w inv t p begun there q i }))

@@ -1,7 +1,9 @@
 -- The numbers that the calls give are the least with their property, and the update that apply takes has the least number.
-use Rattle.std.proofs.Common.{◌≡◌, ℕ, zero, suc, ◌+◌, ◌-◌, ◌%◌, ◌<◌, ◌≤◌, max, Bool, true, false, ◌&&◌, eqb, ltb, ◌⊎◌, List, [], ◌∷◌, length, get_or, Some, None, fold, Option, sym, refl, ap, ◌∙◌, subst, inl, inr, ⊎_elim, arith}
+use Rattle.std.proofs.Common.{◌≡◌, ℕ, zero, suc, ◌+◌, ◌-◌, ◌%◌, ◌<◌, ◌≤◌, max, Bool, true, false, ◌&&◌, nat_lt, ◌⊎◌, List, length, Some, None, fold, Option, sym, refl, ap, ◌∙◌, subst, inl, inr, ⊎_elim, arith}
 use Rattle.std.specs.List.{range_with_len}
-use Rattle.std.proofs.lemmas.Bool.{cases_Bool, cases_eq, cond-true, cond-false, and_parts, and_cases, both_ways, eqb-true, eqb-false, ltb-true, ltb-false}
+use Rattle.std.proofs.lemmas.Bool.{cases_Bool, cases_eq, cond-true, cond-false, and_parts, and_cases, both_ways, ltb-true, ltb-false}
+use Rattle.std.proofs.lemmas.Bool.Decides.{nat_tests}
+use Rattle.clock.proofs.Least.{least_leaving, highest_above, highest_below}
 use Rattle.clock.specs.Clocks.{slot}
 use Rattle.clock.specs.Numbers.{first_leaving, next_number, highest, stamp_number}
 use Rattle.history.specs.Protocol.{Least, NextNumber}
@@ -9,32 +11,8 @@ use Rattle.rules.specs.World.{World}
 use Rattle.rules.specs.Voting.{lowest_from}
 use Rattle.rules.specs.Applying.{waits, number_at, sooner, least_waiting}
 
--- Looking upwards from n finds the least number from n on that leaves t, if there is one within reach.
-pub first_leaving_least : (modulus t more n i : ℕ) → i < more → (n + i) % modulus ≡ t → Least (λ m. (n ≤ m) × (m % modulus ≡ t)) (first_leaving modulus t more n)
-unfolding first_leaving
-first_leaving_least modulus t zero n i l e = absurd (omega arith)
-first_leaving_least modulus t (suc more) n i l e =
-    ⊎_elim
-    (λ (here : eqb (n % modulus) t ≡ true).
-    subst (λ (x : ℕ). Least (λ m. (n ≤ m) × (m % modulus ≡ t)) x) (sym (cond-true (eqb (n % modulus) t) n (first_leaving modulus t more (n + 1)) here))
-    (record { has = (omega arith, eqb-true (n % modulus) t here); least = λ m p. p.0 }))
-    (λ (elsewhere : eqb (n % modulus) t ≡ false).
-    subst (λ (x : ℕ). Least (λ m. (n ≤ m) × (m % modulus ≡ t)) x) (sym (cond-false (eqb (n % modulus) t) n (first_leaving modulus t more (n + 1)) elsewhere))
-    (let not_here : n % modulus ≡ t → ⊥ = eqb-false (n % modulus) t elsewhere in
-    let further : i ≡ 0 → ⊥ = λ z. not_here (subst (λ (j : ℕ). j % modulus ≡ t) (omega arith) e) in
-    let rest = first_leaving_least modulus t more (n + 1) (i - 1) (omega arith) (subst (λ (j : ℕ). j % modulus ≡ t) (omega arith) e) in
-    record {
-      has = (omega (arith, rest.has.0), rest.has.1);
-      least = λ m p. let later : n ≡ m → ⊥ = λ same. not_here (subst (λ (j : ℕ). j % modulus ≡ t) (sym same) p.1) in rest.least m (omega (arith, p.0), p.1);
-    }))
-    (cases_Bool (eqb (n % modulus) t))
-
--- Among 256 numbers in a row one leaves t.
-within_reach : (n t : ℕ) → t < 256 → (n + (t + 256 - n % 256) % 256) % 256 ≡ t
-within_reach n t l = omega arith
-
 leaving : (n t : ℕ) → t < 256 → Least (λ m. (n ≤ m) × (m % 256 ≡ t)) (first_leaving 256 t 256 n)
-leaving n t l = first_leaving_least 256 t 256 n ((t + 256 - n % 256) % 256) (omega arith) (within_reach n t l)
+leaving n t l = let found = least_leaving 256 t n l in record { has = found.has; least = found.least }
 
 -- The next number is the least above the counter that leaves t.
 pub next_number_least : (c t : ℕ) → t < 256 → NextNumber 256 c t (next_number 256 c t)
@@ -42,28 +20,18 @@ next_number_least c t l =
     let found = leaving (c + 1) t l in
     record { has = (omega (arith, found.has.0), found.has.1); least = λ m p. found.least m (omega (arith, p.0), p.1) }
 
--- The highest of a list.
-pub below_highest : (xs : List ℕ) (i : ℕ) → get_or xs i 0 ≤ highest xs
-below_highest [] i = omega arith
-below_highest (x ∷ xs) zero = omega arith
-below_highest (x ∷ xs) (suc i) = let rest = below_highest xs i in omega arith
-
-pub highest_least : (xs : List ℕ) (m : ℕ) → ((i : ℕ) → i < length xs → get_or xs i 0 ≤ m) → highest xs ≤ m
-highest_least [] m h = omega arith
-highest_least (x ∷ xs) m h = let rest = highest_least xs m (λ i l. h (suc i) (omega arith)) in let here = h 0 (omega arith) in omega arith
-
 -- The stamp is the least number that leaves t, is not below any of t's numbers, and is above every slot of the base.
 pub stamp_number_least : (numbers base : List ℕ) (t : ℕ) → t < 256 →
     Least (λ m. (m % 256 ≡ t) × ((p : ℕ) → slot numbers p ≤ m) × ((q : ℕ) → slot base q < m)) (stamp_number 256 numbers base t)
 stamp_number_least numbers base t l =
     let found = leaving (max (highest numbers) (highest base + 1)) t l in
     record {
-      has = (found.has.1, (λ p. omega (arith, below_highest numbers p, found.has.0)), (λ q. omega (arith, below_highest base q, found.has.0)));
+      has = (found.has.1, (λ p. omega (arith, highest_above numbers p, found.has.0)), (λ q. omega (arith, highest_above base q, found.has.0)));
       least =
           λ m p.
           let above = p.2 0 in
-          let numbered = highest_least numbers m (λ i _. p.1 i) in
-          let based = highest_least base (m - 1) (λ i _. omega (arith, p.2 i)) in
+          let numbered = highest_below numbers m (λ i _. p.1 i) in
+          let based = highest_below base (m - 1) (λ i _. omega (arith, p.2 i)) in
           found.least m (omega arith, p.0);
     }
 
@@ -73,11 +41,7 @@ module _ (w : World) (p : ℕ) where
   SoonerThan a n t = (u : ℕ) → a ≤ u → u < a + n → waits w p u ≡ true → number_at w p t ≤ number_at w p u
 
   sooner_too : (a n t : ℕ) → (waits w p a ≡ true → number_at w p t ≤ number_at w p a) → SoonerThan (a + 1) n t → SoonerThan a (suc n) t
-  sooner_too a n t first rest u l m h =
-      ⊎_elim
-      (λ (e : a ≡ u). subst (λ (i : ℕ). number_at w p t ≤ number_at w p i) e (first (subst (λ (i : ℕ). waits w p i ≡ true) (sym e) h)))
-      (λ (e : a ≡ u → ⊥). rest u (omega arith) (omega arith) h)
-      (cases_eq a u)
+  sooner_too a n t first rest u l m h = grind (arith, nat_tests)
 
   -- From a best so far, one that waits comes out.
   pub record FromBest (a n b : ℕ) (o : Option ℕ) : Type 0 where
@@ -91,10 +55,10 @@ module _ (w : World) (p : ℕ) where
   from_best : (n a b : ℕ) → waits w p b ≡ true → FromBest a n b (fold (sooner w p) (Some b) (range_with_len a n))
   from_best zero a b h = record { best = b; is = refl; waiting = h; no_later = omega arith; least = λ u l m _. absurd (omega arith); among = inl refl }
   from_best (suc n) a b h =
-      let test : Bool = waits w p a && ltb (number_at w p a) (number_at w p b) in
+      let test : Bool = waits w p a && nat_lt (number_at w p a) (number_at w p b) in
       ⊎_elim
       (λ (better : test ≡ true).
-      let parts = and_parts (waits w p a) (ltb (number_at w p a) (number_at w p b)) better in
+      let parts = and_parts (waits w p a) (nat_lt (number_at w p a) (number_at w p b)) better in
       let lower = ltb-true (number_at w p a) (number_at w p b) parts.1 in
       let rest = from_best n (a + 1) a parts.0 in
       let later = rest.no_later in
@@ -119,8 +83,8 @@ module _ (w : World) (p : ℕ) where
             (λ here.
             ⊎_elim
             (λ (no : waits w p a ≡ false). absurd (both_ways (waits w p a) no here))
-            (λ (no : ltb (number_at w p a) (number_at w p b) ≡ false). let c = ltb-false (number_at w p a) (number_at w p b) no in omega arith)
-            (and_cases (waits w p a) (ltb (number_at w p a) (number_at w p b)) worse))
+            (λ (no : nat_lt (number_at w p a) (number_at w p b) ≡ false). let c = ltb-false (number_at w p a) (number_at w p b) no in omega arith)
+            (and_cases (waits w p a) (nat_lt (number_at w p a) (number_at w p b)) worse))
             rest.least;
         among = ⊎_elim (λ (e : rest.best ≡ b). inl e) (λ (e : (a + 1 ≤ rest.best) × (rest.best < (a + 1) + n)). inr (omega arith, omega arith)) rest.among;
       })
@@ -132,13 +96,7 @@ module _ (w : World) (p : ℕ) where
   FromNone a n (Some t) = (waits w p t ≡ true) × (a ≤ t) × (t < a + n) × SoonerThan a n t
 
   passed_by : (n a : ℕ) → waits w p a ≡ false → (o : Option ℕ) → FromNone (a + 1) n o → FromNone a (suc n) o
-  passed_by n a away None rest =
-      λ u l m. ⊎_elim
-      (λ (e : a ≡ u). subst (λ (i : ℕ). waits w p i ≡ false) e away)
-      (λ (e : a ≡ u → ⊥). rest u (omega arith) (omega arith))
-      (cases_eq a u)
-  passed_by n a away (Some t) rest =
-      (rest.0, omega (arith, rest.1), omega (arith, rest.2), sooner_too a n t (λ here. absurd (both_ways (waits w p a) away here)) rest.3)
+  passed_by n a e1 o e2 = grind (arith, nat_tests)
 
   from_none : (n a : ℕ) → FromNone a n (fold (sooner w p) None (range_with_len a n))
   from_none zero a = λ u l m. absurd (omega arith)
@@ -163,13 +121,9 @@ module _ (w : World) (p : ℕ) where
   unfolding least_waiting
   least_waiting_is t e = subst (FromNone 1 (length w.transactions)) e (from_none (length w.transactions) 1)
 
-  pub none_waiting : least_waiting w p ≡ None → (u : ℕ) → 1 ≤ u → u < 1 + length w.transactions → waits w p u ≡ false
-  unfolding least_waiting
-  none_waiting e = subst (FromNone 1 (length w.transactions)) e (from_none (length w.transactions) 1)
-
 -- The lowest key of a stretch that passes a test.
 pub lowest_passes : (n a : ℕ) (test : ℕ → Bool) (k : ℕ) → lowest_from n a test ≡ Some k → (test k ≡ true) × ((j : ℕ) → a ≤ j → j < k → test j ≡ false)
-lowest_passes zero a test k e = let z : ◌≡◌ {A = ℕ} 0 1 = cc in absurd (omega arith)
+lowest_passes zero a test k e = absurd cc
 lowest_passes (suc n) a test k e =
     ⊎_elim
     (λ (here : test a ≡ true).
@@ -189,7 +143,7 @@ none_passes (suc n) a test e j l m =
     ⊎_elim
     (λ (here : test a ≡ true).
     let found : Some a ≡ None = sym (cond-true (test a) (Some a) (lowest_from n (a + 1) test) here) ∙ e in
-    let z : ◌≡◌ {A = ℕ} 0 1 = cc in absurd (omega arith))
+    absurd cc)
     (λ (away : test a ≡ false).
     ⊎_elim (λ (same : a ≡ j). subst (λ (i : ℕ). test i ≡ false) same away)
     (λ (other : a ≡ j → ⊥). none_passes n (a + 1) test (sym (cond-false (test a) (Some a) (lowest_from n (a + 1) test) away) ∙ e) j (omega arith) (omega arith))

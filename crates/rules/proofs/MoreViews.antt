@@ -1,76 +1,49 @@
 -- What the view of a world says of votes, write nodes and chains, and how it follows a change of one transaction, a node and the store.
-use Rattle.std.proofs.Common.{◌≡◌, ℕ, ◌<◌, ◌≤◌, max, Bool, true, false, cond, ◌&&◌, ◌||◌, eqb, List, [], ◌∷◌, ◌++◌, map, length, get_or, set, sym, refl, ap, ◌∙◌, subst, ⊎_elim, arith}
-use Rattle.std.proofs.lemmas.List.{get_or_past}
-use Rattle.std.proofs.lemmas.List.FromFn.{length-map-range_with_len, get_or-map-range_with_len}
-use Rattle.std.proofs.lemmas.Bool.{cases_lt, cond_both, or_right, ltb-true, both_ways, false≢true}
+use Rattle.std.proofs.Common.{◌≡◌, ℕ, ◌<◌, max, Bool, true, false, cond, ◌&&◌, ◌||◌, List, map, length, slice_index_or, slice_set, sym, ap, ◌∙◌, arith, ◌==◌}
+use Rattle.std.proofs.lemmas.Bool.{ltb-true, both_ways}
+use Rattle.std.proofs.lemmas.Bool.Decides.{nat_tests}
+use Rattle.std.proofs.lemmas.Grind.{common_steps}
+use Rattle.clock.proofs.Joins.{slot_join}
 use Rattle.clock.specs.Clocks.{slot, marked, join}
-use Rattle.store.specs.declared.Version.{Version as Stored}
-use Rattle.store.specs.Model.{Meaning, first_version}
-use Rattle.history.specs.Table.{Version, newest}
+use Rattle.store.specs.Model.{Meaning}
+use Rattle.history.specs.Table.{Version}
 use Rattle.history.specs.Protocol as protocol
 use Rattle.history.specs.Protocol.{State}
 use Rattle.rules.specs.declared.records.Node.{Node}
 use Rattle.rules.specs.declared.records.Transaction.{Transaction}
 use Rattle.rules.specs.World.{World, new_node, is_begun, is_node, node, transaction, bit, noted, wrote, is_write_node}
-use Rattle.rules.specs.Voting.{newest_writer}
 use Rattle.rules.proofs.View.{view, placed, transaction_of, node_of, participation_of, version_of, without_last}
 use Rattle.rules.proofs.Invariant.{Invariant}
-use Rattle.rules.proofs.Views.{same_state, node_after, marked_set, view_transaction, view_participation, view_begun}
+use Rattle.rules.proofs.Views.{same_state, view_transaction, view_participation, view_begun}
 use Rattle.rules.proofs.Keeping.{changed_world}
 use Rattle.rules.proofs.States.{write_node_has, write_node_from}
-
--- ── Clocks ──
-
-pub length-join : (a b : List ℕ) → length (join a b) ≡ 8
-length-join a b = length-map-range_with_len (λ q. max (slot a q) (slot b q)) 0 8
-
-pub slot_join : (a b : List ℕ) (q : ℕ) → length a ≡ 8 → length b ≡ 8 → slot (join a b) q ≡ max (slot a q) (slot b q)
-slot_join a b q la lb =
-    ⊎_elim
-    (λ (l : q < 8). get_or-map-range_with_len (λ i. max (slot a i) (slot b i)) 0 8 q q 0 l (omega arith))
-    (λ (l : 8 ≤ q).
-    let j = length-join a b in
-    let past = get_or_past (join a b) q 0 (omega arith) in
-    let pa = get_or_past a q 0 (omega arith) in
-    let pb = get_or_past b q 0 (omega arith) in
-    omega arith)
-    (cases_lt q 8)
 
 -- ── The view after a change ──
 
 pub view_changed : (w : World) (nodes : List Node) (t : ℕ) (y : Transaction) (store : Meaning) → is_begun w t ≡ true →
     (f : Bool → protocol.Transaction → protocol.Transaction) (p : ℕ) (g : Bool → protocol.Participation → protocol.Participation) (n : ℕ → protocol.Node) (c : ℕ → ℕ → List Version) →
     ((x : protocol.Transaction) → f false x ≡ x) → transaction_of y ≡ f true (transaction_of (transaction w t)) →
-    ((x : protocol.Participation) → g false x ≡ x) → ((q : ℕ) → participation_of y q ≡ g (eqb p q) (participation_of (transaction w t) q)) →
-    ((q : ℕ) → node_of (get_or nodes q new_node) ≡ n q) → ((q k : ℕ) → map version_of (without_last (store q k).versions) ≡ c q k) →
+    ((x : protocol.Participation) → g false x ≡ x) → ((q : ℕ) → participation_of y q ≡ g (p == q) (participation_of (transaction w t) q)) →
+    ((q : ℕ) → node_of (slice_index_or nodes q new_node) ≡ n q) → ((q k : ℕ) → map version_of (without_last (store q k).versions) ≡ c q k) →
     ◌≡◌ {A = State} (view (changed_world w nodes t y store))
-    (record { transaction = λ u. f (eqb t u) ((view w).transaction u); node = n; participation = λ u q. g (eqb t u && eqb p q) ((view w).participation u q); chain = c })
+    (record { transaction = λ u. f (t == u) ((view w).transaction u); node = n; participation = λ u q. g (t == u && p == q) ((view w).participation u q); chain = c })
 view_changed w nodes t y store begun f p g n c f_rest f_here g_rest g_here nodes_are chains_are =
     same_state (view (changed_world w nodes t y store))
-    (record { transaction = λ u. f (eqb t u) ((view w).transaction u); node = n; participation = λ u q. g (eqb t u && eqb p q) ((view w).participation u q); chain = c })
+    (record { transaction = λ u. f (t == u) ((view w).transaction u); node = n; participation = λ u q. g (t == u && p == q) ((view w).participation u q); chain = c })
     (view_transaction w t y begun f f_rest f_here) nodes_are (view_participation w t y begun p g g_rest g_here) chains_are
 
 -- ── What the view says ──
 
--- The writer of the newest version.
-pub newest_same : (vs : List Stored) → without_last vs ++ first_version ∷ [] ≡ vs → (newest (map version_of (without_last vs))).writer ≡ newest_writer vs
-newest_same [] h = refl
-newest_same (v ∷ []) h = let z : v ≡ first_version = cc in ap (λ (x : Stored). x.writer) (sym z)
-newest_same (v ∷ u ∷ older) h = refl
-
 module _ (w : World) (inv : Invariant w) where
   module _ (t : ℕ) (begun : is_begun w t ≡ true) where
-    pub noted_view : (k : ℕ) → protocol.noted (view w) t k ≡ noted (transaction w t) k
-    noted_view k = ap (λ (x : protocol.Transaction). x.reading.noted k) (view_begun w t begun)
-
     pub wrote_view : (k : ℕ) → protocol.wrote (view w) t k ≡ wrote (transaction w t) k
     wrote_view k = ap (λ (x : protocol.Transaction). x.writing.wrote k) (view_begun w t begun)
 
     pub touched_view : (k : ℕ) → protocol.touched (view w) t k ≡ (noted (transaction w t) k || wrote (transaction w t) k)
-    touched_view k = ap (λ (x : protocol.Transaction). x.reading.noted k || x.writing.wrote k) (view_begun w t begun)
+    touched_view k = grind (arith, nat_tests)
 
     wrote_key : (k : ℕ) → wrote (transaction w t) k ≡ true → k < length w.placement
-    wrote_key k h = inv.keys_only t k begun (or_right (noted (transaction w t) k) (wrote (transaction w t) k) h)
+    wrote_key k h = grind (arith, nat_tests)
 
     -- Write nodes.
     pub write_node_view : (p : ℕ) → is_write_node w (transaction w t) p ≡ true → protocol.WriteNode (placed w.placement) (view w) t p
@@ -92,18 +65,12 @@ module _ (w : World) (inv : Invariant w) where
 
   -- What is engaged is begun.
   pub engaged_begun : (u p : ℕ) → protocol.engaged (view w) u p ≡ true → (is_begun w u ≡ true) × (marked (transaction w u).engaged p ≡ true)
-  engaged_begun u p h = begun_there (is_begun w u) (participation_of (transaction w u) p) ((protocol.fresh).participation u p) refl h
-    where
-      begun_there : (b : Bool) (x d : protocol.Participation) → d.engaged ≡ false → (cond b x d).engaged ≡ true → (b ≡ true) × (x.engaged ≡ true)
-      begun_there true x d e h = (refl, h)
-      begun_there false x d e h = absurd (both_ways d.engaged e h)
+  engaged_begun u p h = grind (arith, nat_tests, common_steps)
 
 -- ── A node that changes ──
 
-pub seen_after : (w : World) (p : ℕ) (n : Node) → Invariant w → is_node w p ≡ true → length n.seen ≡ 8 → (q : ℕ) → q < length w.nodes → length (get_or (set w.nodes p n) q new_node).seen ≡ 8
-seen_after w p n inv there long q l =
-    subst (λ (m : Node). length m.seen ≡ 8) (sym (node_after w p n q there))
-    (cond_both (eqb p q) n (node w q) (λ (m : Node). length m.seen ≡ 8) (λ _. long) (λ _. inv.seen q l))
+pub seen_after : (w : World) (p : ℕ) (n : Node) → Invariant w → is_node w p ≡ true → length n.seen ≡ 8 → (q : ℕ) → q < length w.nodes → length (slice_index_or (slice_set w.nodes p n) q new_node).seen ≡ 8
+seen_after w p n inv there long q l = grind (arith, nat_tests, common_steps)
 
 -- ── A node p and a transaction t ──
 
@@ -121,12 +88,5 @@ module _ (w : World) (inv : Invariant w) (t p : ℕ) (begun : is_begun w t ≡ t
       ∙ ap (λ (a : protocol.Transaction). max (slot (node w p).seen q) (a.outcome.commit_clock q)) (sym (view_begun w t begun))
 
   -- The row of nodes where t is engaged, after a release.
-  pub released_row : (q : ℕ) → marked (set (transaction w t).engaged p false) q ≡ cond (eqb p q) false (marked (transaction w t).engaged q)
-  released_row q = marked_set (transaction w t).engaged p q false (let l = (inv.shaped t begun).engaged in let b = below_eight in omega arith)
-
-  pub engaged_before : (q : ℕ) → marked (set (transaction w t).engaged p false) q ≡ true → marked (transaction w t).engaged q ≡ true
-  engaged_before q h = before (eqb p q) (marked (transaction w t).engaged q) (sym (released_row q) ∙ h)
-    where
-      before : (b m : Bool) → cond b false m ≡ true → m ≡ true
-      before true m h = absurd (false≢true h)
-      before false m h = h
+  pub released_row : (q : ℕ) → marked (slice_set (transaction w t).engaged p false) q ≡ cond (p == q) false (marked (transaction w t).engaged q)
+  released_row q = grind (arith, nat_tests, common_steps)

@@ -1,7 +1,10 @@
 -- Prepare: a node votes on an offered update.
-use Rattle.std.proofs.Common.{◌≡◌, ℕ, ◌+◌, ◌-◌, ◌<◌, ◌≤◌, max, Bool, true, false, cond, not, ◌&&◌, ◌||◌, eqb, [], ◌∷◌, ◌++◌, map, length, get_or, set, Some, None, Ok, Err, Option, Result, sym, refl, ap, ◌∙◌, subst, inr, ⊎_elim, arith}
+use Rattle.std.proofs.Common.{◌≡◌, ℕ, ◌+◌, ◌-◌, ◌<◌, ◌≤◌, max, Bool, true, false, cond, not, ◌&&◌, ◌||◌, [], ◌∷◌, ◌++◌, map, length, slice_set, Some, None, Ok, Err, Option, Result, sym, refl, ap, ◌∙◌, subst, inr, ⊎_elim, arith, ◌==◌}
 use Rattle.std.proofs.lemmas.List.{length-set}
-use Rattle.std.proofs.lemmas.Bool.{cases_Bool, cases_lt, cond-false, both_ways, false≢true, and_parts, and_cases, ltb-true, not-true, not-false, not_from_false, eqb-true, eqb-false, ne_eqb}
+use Rattle.std.proofs.lemmas.Bool.{cases_lt, cond-false, both_ways, false≢true, and_parts, ltb-true, not-true, not_from_false, ne_eqb}
+use Rattle.std.proofs.lemmas.Bool.Decides.{nat_tests}
+use Rattle.std.proofs.lemmas.Grind.{common_steps}
+use Rattle.clock.proofs.Joins.{slot_join}
 use Rattle.calls.specs.declared.answer.Answer.TheVariants.{Yes, NoOvertaken, NoPlace}
 use Rattle.calls.specs.declared.refusal.Refusal.TheVariants.{NoSuchTransaction, NoSuchNode, WrongState, NotPolled, AlreadyDone, Busy}
 use Rattle.calls.specs.Requests.{prepare}
@@ -14,20 +17,20 @@ use Rattle.history.specs.Protocol as protocol
 use Rattle.rules.specs.declared.records.State.TheVariants.{Open, Offered}
 use Rattle.rules.specs.declared.records.Event.TheVariants.{Prepare}
 use Rattle.rules.specs.declared.records.Transaction.{Transaction}
-use Rattle.rules.specs.World.{World, is_begun, is_node, holds, node, transaction, with_transaction, with_node, with_store, bit, some_below, noted, wrote, value_or, is_write_node, written_at}
+use Rattle.rules.specs.World.{World, is_begun, is_node, holds, node, transaction, with_transaction, with_node, with_store, bit, some_below, noted, wrote, is_write_node, written_at}
 use Rattle.rules.specs.Changes.{may, has_no, has_yes, is_numbered, is_open}
-use Rattle.rules.specs.Voting.{conflict_at, blocks, busy, newest_writer, overtaken_at, overtaken_key, counted, yes, vote_by_places, vote}
+use Rattle.rules.specs.Voting.{conflict_at, blocks, busy, overtaken_at, overtaken_key, counted, yes, vote_by_places, vote}
 use Rattle.rules.proofs.View.{view, placed, transaction_of, kind_of, status_of, version_of, without_last}
 use Rattle.rules.proofs.Invariant.{Invariant, Shaped, GoodStep}
 use Rattle.rules.proofs.Checks.{GoodOutcome, good_step, checked}
-use Rattle.rules.proofs.Views.{begun_place, marked_set, slot_set, view_begun, participation_begun, view_node}
+use Rattle.rules.proofs.Views.{begun_place, marked_set, slot_set, view_begun, view_node}
 use Rattle.rules.proofs.States.{offered_is}
 use Rattle.rules.proofs.Keeping.{fits, keeps_transaction, keeps_change}
 use Rattle.rules.proofs.Later.{Later, later_fits}
 use Rattle.rules.proofs.Sets.{none_from, written_members}
 use Rattle.rules.proofs.Least.{next_number_least, lowest_passes, none_passes}
-use Rattle.rules.proofs.Places.{aside_versions, aside_balance, refused_member}
-use Rattle.rules.proofs.MoreViews.{length-join, slot_join, newest_same, view_changed, noted_view, wrote_view, write_node_view, no_write_node_view, polled_view, engaged_begun, seen_after, below_eight}
+use Rattle.rules.proofs.Places.{aside_balance, refused_member}
+use Rattle.rules.proofs.MoreViews.{view_changed, wrote_view, write_node_view, no_write_node_view, polled_view, engaged_begun, seen_after, below_eight}
 
 module _ (w : World) (inv : Invariant w) (t p : ℕ) (begun : is_begun w t ≡ true) (there : is_node w p ≡ true) (offered : (transaction w t).state ≡ Offered) (polled : bit (transaction w t).polled p ≡ true) (unvoted : marked (transaction w t).voted p ≡ false) (free_there : busy w t p ≡ false) where
   abbrev x : Transaction
@@ -57,26 +60,23 @@ module _ (w : World) (inv : Invariant w) (t p : ℕ) (begun : is_begun w t ≡ t
       let at : blocks w t p u ≡ false = subst (λ (i : ℕ). blocks w t p i ≡ false) (omega arith) (none_from (λ i. blocks w t p (i + 1)) (length w.transactions) free_there (u - 1) place.1) in
       let conflicts : some_below 64 (conflict_at w x (transaction w u) p) ≡ false =
       behind (marked (transaction w u).engaged p) (some_below 64 (conflict_at w x (transaction w u) p)) engaged
-      (behind (not (eqb u t)) (marked (transaction w u).engaged p && some_below 64 (conflict_at w x (transaction w u) p)) (not_from_false (eqb u t) (ne_eqb u t other)) at) in
+      (behind (not (u == t)) (marked (transaction w u).engaged p && some_below 64 (conflict_at w x (transaction w u) p)) (not_from_false (u == t) (ne_eqb u t other)) at) in
       behind (holds w p k) ((wrote (transaction w u) k && (noted x k || wrote x k)) || (noted (transaction w u) k && wrote x k)) held
       (none_from (conflict_at w x (transaction w u) p) 64 conflicts k (key_below k held))
     where
       behind : (a b : Bool) → a ≡ true → (a && b) ≡ false → b ≡ false
-      behind true b e h = h
-      behind false b e h = absurd (false≢true e)
+      behind a b e1 e2 = grind (arith, nat_tests)
 
   conflict_view : (u k : ℕ) → is_begun w u ≡ true →
       protocol.conflict (view w) u t k ≡ ((wrote (transaction w u) k && (noted x k || wrote x k)) || (noted (transaction w u) k && wrote x k))
-  conflict_view u k u_begun =
-      ap (λ (a : protocol.Transaction). (a.writing.wrote k && protocol.touched (view w) t k) || (a.reading.noted k && protocol.wrote (view w) t k)) (view_begun w u u_begun)
-      ∙ ap (λ (a : protocol.Transaction). (wrote (transaction w u) k && (a.reading.noted k || a.writing.wrote k)) || (noted (transaction w u) k && a.writing.wrote k)) (view_begun w t begun)
+  conflict_view u k u_begun = grind (arith, nat_tests)
 
   may_vote : protocol.MayVote (placed w.placement) (view w) t p
   may_vote =
       record {
-        offered = ap (λ (a : protocol.Transaction). a.status) (view_begun w t begun) ∙ ap status_of offered;
+        offered = grind (arith, nat_tests, common_steps);
         polled = polled_view w inv t begun p polled;
-        unvoted = ap (λ (a : protocol.Participation). a.voted) (participation_begun w t p begun) ∙ unvoted;
+        unvoted = grind (arith, nat_tests, common_steps);
         not_busy =
             λ u k engaged other held.
             let r = engaged_begun w inv u p engaged in
@@ -85,38 +85,12 @@ module _ (w : World) (inv : Invariant w) (t p : ℕ) (begun : is_begun w t ≡ t
 
   -- ── What is overtaken ──
 
-  noted_writer_view : (k : ℕ) → protocol.noted_writer (view w) t k ≡ value_or (get_or x.noted k None) 0
-  noted_writer_view k = ap (λ (a : protocol.Transaction). a.reading.noted_writer k) (view_begun w t begun)
-
-  newest_view : (k : ℕ) → (newest (protocol.chain (view w) p k)).writer ≡ newest_writer (w.store p k).versions
-  newest_view k = newest_same (w.store p k).versions (inv.first_last p k)
-
   overtaken_view : (k : ℕ) → overtaken_at w x p k ≡ true → protocol.Overtaken (placed w.placement) (view w) t p k
-  overtaken_view k h =
-      let outer = and_parts (holds w p k) (noted x k && not (eqb (newest_writer (w.store p k).versions) (value_or (get_or x.noted k None) 0))) h in
-      let inner = and_parts (noted x k) (not (eqb (newest_writer (w.store p k).versions) (value_or (get_or x.noted k None) 0))) outer.1 in (
-        outer.0,
-        noted_view w inv t begun k ∙ inner.0,
-        λ same.
-            eqb-false (newest_writer (w.store p k).versions) (value_or (get_or x.noted k None) 0)
-            (not-true (eqb (newest_writer (w.store p k).versions) (value_or (get_or x.noted k None) 0)) inner.1)
-            (sym (newest_view k) ∙ sym same ∙ noted_writer_view k),
-      )
+  overtaken_view k h = grind (arith, nat_tests)
 
   current_at : (k : ℕ) → overtaken_at w x p k ≡ false → holds w p k ≡ true → protocol.noted (view w) t k ≡ true →
       protocol.noted_writer (view w) t k ≡ (newest (protocol.chain (view w) p k)).writer
-  current_at k h held was_noted =
-      ⊎_elim
-      (λ (e : holds w p k ≡ false). absurd (both_ways (holds w p k) e held))
-      (λ (e : (noted x k && not (eqb (newest_writer (w.store p k).versions) (value_or (get_or x.noted k None) 0))) ≡ false).
-      ⊎_elim
-      (λ (n : noted x k ≡ false). absurd (both_ways (noted x k) n (sym (noted_view w inv t begun k) ∙ was_noted)))
-      (λ (n : not (eqb (newest_writer (w.store p k).versions) (value_or (get_or x.noted k None) 0)) ≡ false).
-      noted_writer_view k
-      ∙ sym (eqb-true (newest_writer (w.store p k).versions) (value_or (get_or x.noted k None) 0) (not-false (eqb (newest_writer (w.store p k).versions) (value_or (get_or x.noted k None) 0)) n))
-      ∙ sym (newest_view k))
-      (and_cases (noted x k) (not (eqb (newest_writer (w.store p k).versions) (value_or (get_or x.noted k None) 0))) e))
-      (and_cases (holds w p k) (noted x k && not (eqb (newest_writer (w.store p k).versions) (value_or (get_or x.noted k None) 0))) h)
+  current_at k h held was_noted = grind (arith, nat_tests)
 
   current : overtaken_key w x p ≡ None → protocol.Current (placed w.placement) (view w) t p
   unfolding overtaken_key
@@ -141,22 +115,15 @@ module _ (w : World) (inv : Invariant w) (t p : ℕ) (begun : is_begun w t ≡ t
   refused_later : Later w x (has_no p x)
   refused_later =
       record {
-        shaped = record { clock = shape.clock; read = shape.read; noted = shape.noted; written = shape.written; voted = length-set x.voted p true ∙ shape.voted; engaged = shape.engaged; numbers = shape.numbers; votes = shape.votes; learned = shape.learned; applied = shape.applied; commit = shape.commit };
+        shaped = grind (arith, nat_tests, common_steps);
         noted_same = refl;
         written_same = refl;
         polled_same = refl;
         offered = λ e. e;
         closed = closed;
         numbers = λ q h. inv.numbers_there t q begun h;
-        voted = λ q h. still_voted q (inv.engaged_voted t q begun h);
+        voted = λ q h. grind (arith, nat_tests, common_steps);
       }
-    where
-      mark_kept : (b m : Bool) → m ≡ true → cond b true m ≡ true
-      mark_kept true m h = refl
-      mark_kept false m h = h
-
-      still_voted : (q : ℕ) → marked x.voted q ≡ true → marked (set x.voted p true) q ≡ true
-      still_voted q h = marked_set x.voted p q true (let l = shape.voted in let b = below in omega arith) ∙ mark_kept (eqb p q) (marked x.voted q) h
 
   no_keeps : Invariant (with_transaction w t (has_no p x))
   no_keeps = keeps_transaction w t (has_no p x) inv begun (later_fits w x (has_no p x) (fits w t inv begun) refused_later) (λ q k. refl)
@@ -166,7 +133,7 @@ module _ (w : World) (inv : Invariant w) (t p : ℕ) (begun : is_begun w t ≡ t
       view_changed w w.nodes t (has_no p x) w.store begun protocol.is_refused p protocol.votes_no (view w).node (view w).chain
       (λ a. refl) refl (λ a. refl)
       (λ q.
-      let voted : marked (set x.voted p true) q ≡ cond (eqb p q) true (marked x.voted q) = marked_set x.voted p q true (let l = shape.voted in let b = below in omega arith) in
+      let voted : marked (slice_set x.voted p true) q ≡ cond (p == q) true (marked x.voted q) = marked_set x.voted p q true (let l = shape.voted in let b = below in omega arith) in
       λ i. record { voted = voted i; engaged = marked x.engaged q; number = slot x.numbers q; learned = marked x.learned q; applied = marked x.applied q })
       (λ q. refl) (λ q k. refl)
 
@@ -185,11 +152,7 @@ module _ (w : World) (inv : Invariant w) (t p : ℕ) (begun : is_begun w t ≡ t
 
   -- t was not engaged at p, since p had not voted on it.
   idle : marked x.engaged p ≡ false
-  idle =
-      ⊎_elim
-      (λ (engaged : marked x.engaged p ≡ true). absurd (both_ways (marked x.voted p) unvoted (inv.engaged_voted t p begun engaged)))
-      (λ (no : marked x.engaged p ≡ false). no)
-      (cases_Bool (marked x.engaged p))
+  idle = grind (arith, nat_tests)
 
   abbrev agreed : Transaction
   agreed = has_yes p (node w p).seen x
@@ -200,18 +163,14 @@ module _ (w : World) (inv : Invariant w) (t p : ℕ) (begun : is_begun w t ≡ t
   abbrev store_then : Meaning
   store_then = all_aside w.store p (written_at w x p)
 
-  voted_row : (q : ℕ) → marked (set x.voted p true) q ≡ cond (eqb p q) true (marked x.voted q)
+  voted_row : (q : ℕ) → marked (slice_set x.voted p true) q ≡ cond (p == q) true (marked x.voted q)
   voted_row q = marked_set x.voted p q true (let l = shape.voted in let b = below in omega arith)
 
-  engaged_row : (q : ℕ) → marked (set x.engaged p true) q ≡ cond (eqb p q) true (marked x.engaged q)
+  engaged_row : (q : ℕ) → marked (slice_set x.engaged p true) q ≡ cond (p == q) true (marked x.engaged q)
   engaged_row q = marked_set x.engaged p q true (let l = shape.engaged in let b = below in omega arith)
 
-  voted_then : (q : ℕ) → marked (set x.engaged p true) q ≡ true → marked (set x.voted p true) q ≡ true
-  voted_then q h = voted_row q ∙ either (eqb p q) (marked x.engaged q) (marked x.voted q) (inv.engaged_voted t q begun) (sym (engaged_row q) ∙ h)
-    where
-      either : (b e v : Bool) → (e ≡ true → v ≡ true) → cond b true e ≡ true → cond b true v ≡ true
-      either true e v f h = refl
-      either false e v f h = f h
+  voted_then : (q : ℕ) → marked (slice_set x.engaged p true) q ≡ true → marked (slice_set x.voted p true) q ≡ true
+  voted_then q h = grind (arith, nat_tests, common_steps)
 
   votes_view : (q : ℕ) → slot (join x.votes (node w p).seen) q ≡ protocol.join (protocol.vote_clock (view w) t) (protocol.seen (view w) p) q
   votes_view q =
@@ -231,16 +190,16 @@ module _ (w : World) (inv : Invariant w) (t p : ℕ) (begun : is_begun w t ≡ t
       }
 
   first_last_then : (q k : ℕ) → without_last (store_then q k).versions ++ first_version ∷ [] ≡ (store_then q k).versions
-  first_last_then q k = subst (λ vs. without_last vs ++ first_version ∷ [] ≡ vs) (sym (aside_versions w.store p (written_at w x p) q k)) (inv.first_last q k)
+  first_last_then q k = grind (arith, nat_tests)
 
   chains_view : (q k : ℕ) → map version_of (without_last (store_then q k).versions) ≡ (view w).chain q k
-  chains_view q k = ap (λ vs. map version_of (without_last vs)) (aside_versions w.store p (written_at w x p) q k)
+  chains_view q k = grind (arith, nat_tests)
 
   -- At a node that only read.
   agreed_later : Later w x agreed
   agreed_later =
       record {
-        shaped = record { clock = shape.clock; read = shape.read; noted = shape.noted; written = shape.written; voted = length-set x.voted p true ∙ shape.voted; engaged = length-set x.engaged p true ∙ shape.engaged; numbers = shape.numbers; votes = length-join x.votes (node w p).seen; learned = shape.learned; applied = shape.applied; commit = shape.commit };
+        shaped = grind (arith, nat_tests, common_steps);
         noted_same = refl;
         written_same = refl;
         polled_same = refl;
@@ -277,7 +236,7 @@ module _ (w : World) (inv : Invariant w) (t p : ℕ) (begun : is_begun w t ≡ t
     given_later : is_write_node w x p ≡ true → Later w x given
     given_later writes =
         record {
-          shaped = record { clock = shape.clock; read = shape.read; noted = shape.noted; written = shape.written; voted = length-set x.voted p true ∙ shape.voted; engaged = length-set x.engaged p true ∙ shape.engaged; numbers = length-set x.numbers p n ∙ shape.numbers; votes = length-join x.votes (node w p).seen; learned = shape.learned; applied = shape.applied; commit = shape.commit };
+          shaped = grind (arith, nat_tests, common_steps);
           noted_same = refl;
           written_same = refl;
           polled_same = refl;
@@ -286,7 +245,7 @@ module _ (w : World) (inv : Invariant w) (t p : ℕ) (begun : is_begun w t ≡ t
           numbers =
               λ q h.
               slot_set x.numbers p q n (let l = shape.numbers in let b = below in omega arith)
-              ∙ cond-false (eqb p q) n (slot x.numbers q) (ne_eqb p q (λ e. both_ways (is_write_node w x q) h (subst (λ (r : ℕ). is_write_node w x r ≡ true) e writes)))
+              ∙ cond-false (p == q) n (slot x.numbers q) (ne_eqb p q (λ e. both_ways (is_write_node w x q) h (subst (λ (r : ℕ). is_write_node w x r ≡ true) e writes)))
               ∙ inv.numbers_there t q begun h;
           voted = voted_then;
         }
@@ -303,19 +262,19 @@ module _ (w : World) (inv : Invariant w) (t p : ℕ) (begun : is_begun w t ≡ t
         record {
           same_placement = refl;
           keeps =
-              keeps_change w (set w.nodes p (counted n (node w p))) t given store_then inv begun (length-set w.nodes p (counted n (node w p)))
+              keeps_change w (slice_set w.nodes p (counted n (node w p))) t given store_then inv begun (length-set w.nodes p (counted n (node w p)))
               (seen_after w p (counted n (node w p)) inv there seen_long) (later_fits w x given (fits w t inv begun) (given_later writes)) first_last_then
               (aside_balance w inv t p begun (let l = shape.engaged in let b = below in omega arith) idle);
           refines =
               inr (
                 protocol.yes_write t p n,
                 record { vote = may_vote; current = current e; write_node = write_node_view w inv t begun p writes; numbered = next_least },
-                view_changed w (set w.nodes p (counted n (node w p))) t given store_then begun
+                view_changed w (slice_set w.nodes p (counted n (node w p))) t given store_then begun
                     (protocol.joins_votes (protocol.join (protocol.vote_clock (view w) t) (protocol.seen (view w) p))) p (λ here a. protocol.takes_number n here (protocol.votes_yes here a))
-                    (λ q. protocol.counts n (eqb p q) ((view w).node q)) (view w).chain
+                    (λ q. protocol.counts n (p == q) ((view w).node q)) (view w).chain
                     (λ a. refl) agreed_view (λ a. refl)
                     (λ q.
-                    let number : slot (set x.numbers p n) q ≡ cond (eqb p q) n (slot x.numbers q) = slot_set x.numbers p q n (let l = shape.numbers in let b = below in omega arith) in
+                    let number : slot (slice_set x.numbers p n) q ≡ cond (p == q) n (slot x.numbers q) = slot_set x.numbers p q n (let l = shape.numbers in let b = below in omega arith) in
                     λ i. record { voted = voted_row q i; engaged = engaged_row q i; number = number i; learned = marked x.learned q; applied = marked x.applied q })
                     (view_node w p (counted n (node w p)) (protocol.counts n) there (λ a. refl) refl) chains_view,
                 refl,

@@ -1,18 +1,17 @@
 -- The promises follow from what holds of histories.
-use Rattle.std.proofs.Common.{◌≡◌, ℕ, zero, suc, ◌+◌, ◌-◌, ◌*◌, ◌<◌, ◌≤◌, Bool, true, false, cond, ◌&&◌, eqb, leb, List, [], ◌∷◌, ◌++◌, map, length, get_or, set, Some, None, Option, sym, refl, ap, ◌∙◌, subst, inl, inr, ⊎_elim, arith, lit<}
+use Rattle.std.proofs.Common.{◌≡◌, ℕ, zero, suc, ◌+◌, ◌-◌, ◌*◌, ◌<◌, ◌≤◌, Bool, true, false, cond, ◌&&◌, nat_le, List, [], ◌∷◌, ◌++◌, length, slice_index_or, slice_set, Some, None, Option, sym, refl, ap, ◌∙◌, subst, inl, inr, ⊎_elim, arith, lit<, ◌==◌}
 use mathlib.Core.List.{Perm}
-use Rattle.std.proofs.lemmas.Bool.{cases_Bool, both_ways, cond-true, leb-false, lt-leb, and_from, ltb-true, lt-ltb, eqb-true}
-use Rattle.std.proofs.lemmas.Bool.Decides.{nat_tests as tells}
-use Rattle.std.proofs.lemmas.List.{get_or-set_same}
+use Rattle.std.proofs.lemmas.Bool.{cases_Bool, both_ways, leb-false, lt-leb, and_from, ltb-true, lt-ltb, eqb-true}
+use Rattle.std.proofs.lemmas.Bool.Decides.{nat_tests}
+use Rattle.std.proofs.lemmas.Grind.{common_steps}
+use Rattle.rules.proofs.Views.{view_begun as shown}
 use Rattle.calls.specs.declared.answer.Answer.{Answer}
-use Rattle.calls.specs.declared.answer.Answer.TheVariants.{Done, Found, Refused}
+use Rattle.calls.specs.declared.answer.Answer.TheVariants.{Found, Refused}
 use Rattle.calls.specs.declared.refusal.Refusal.{Refusal}
 use Rattle.calls.specs.declared.refusal.Refusal.TheVariants.{NoSuchTransaction, NoSuchNode, NoSuchKey, KeyNotHeld, WrongState, NotYet, Overtaken, TooManyKeysRead}
-use Rattle.calls.specs.Requests.{Request, read, finish}
+use Rattle.calls.specs.Requests.{Request, read}
 use Rattle.clock.specs.Clocks.{slot, marked}
-use Rattle.store.specs.declared.Version.{Version as Stored}
 use Rattle.store.specs.Model.{FreeRule, aside_there}
-use Rattle.store.specs.Model as store
 use Rattle.history.specs.Table.{Version, version, first_version, first_table, Operation, after, puts, scripts_conflict, play_all, AllAnswered, Member, listed, Later, selected, newest}
 use Rattle.history.specs.Protocol as protocol
 use Rattle.history.specs.Protocol.{State, Event}
@@ -32,11 +31,11 @@ use Rattle.rules.specs.Changes.{may, is_open, has_read, has_noted}
 use Rattle.rules.specs.Reading.{clock_after, version_passes, newest_passes, can_note, visible, read_by, read_open, read_call}
 use Rattle.rules.specs.Steps.{can_make, made_world, step, world_after}
 use Rattle.rules.specs.Transcript.{Transcript, Told, began, got, put_value, decided_commit, applied_there, nothing, told, transcript, script, answers_got, decisions, applied_at}
-use Rattle.rules.specs.Promises.{stays, OrderAnswered, table_after, HasAPlace, chain_of, writers, ListsWriters, newest_applied, Answered, IsSearch, IsOpenSearch, YetToApply, reads_own_only, NumbersWithin, Promises, PromisesKept}
-use Rattle.rules.proofs.View.{view, placed, told_by, kind_of, transaction_of, participation_of, version_of, without_last}
+use Rattle.rules.specs.Promises.{stays, OrderAnswered, table_after, HasAPlace, chain_of, writers, ListsWriters, newest_applied, IsSearch, IsOpenSearch, YetToApply, reads_own_only, NumbersWithin, Promises, PromisesKept}
+use Rattle.rules.proofs.View.{view, placed, told_by, kind_of, transaction_of}
 use Rattle.rules.proofs.Invariant.{Invariant, GoodStep, engaged_writers}
 use Rattle.rules.proofs.Told.{same_scripts, same_answers, same_decisions, same_applications}
-use Rattle.rules.proofs.Tied.{Tied, tied, ComesTo, view_begun, stays_begun}
+use Rattle.rules.proofs.Tied.{Tied, tied, ComesTo, view_begun}
 use Rattle.rules.proofs.Readers.{own_only, writers_update}
 use Rattle.rules.proofs.Searches.{Searched, searches_on}
 use Rattle.rules.proofs.Unchanged.{unchanged_if_refused}
@@ -51,27 +50,22 @@ OpenSearch w t = (is_begun w t ≡ true) × ((transaction w t).kind ≡ Search) 
 
 -- a check that fails, and one that is passed on the way to an answer
 fails : (b : Bool) (w : World) (refusal : Refusal) (o : Outcome) → b ≡ false → (check b w refusal o).0 ≡ Refused refusal
-fails true w refusal o e = absurd (both_ways true e refl)
-fails false w refusal o e = refl
+fails b w refusal o e1 = grind (arith, nat_tests)
 
 refused_there : (b : Bool) (w after : World) (refusal r : Refusal) (value writer : ℕ) → (check b w refusal (Found value writer, after)).0 ≡ Refused r → b ≡ false
-refused_there true w after refusal r value writer e = let z : ◌≡◌ {A = ℕ} 0 1 = cc in absurd (omega arith)
-refused_there false w after refusal r value writer e = refl
+refused_there b w after refusal r value writer e1 = grind (arith, nat_tests)
 
 is_none : (o : Option ℕ) → is_there o ≡ false → o ≡ None
-is_none None e = refl
-is_none (Some x) e = absurd (both_ways true e refl)
+is_none o e1 = grind (arith, nat_tests)
 
 -- a read that no refusal before the eleventh meets
 read_reaches : (w : World) (t k p : ℕ) → is_begun w t ≡ true → is_node w p ≡ true → is_key w k ≡ true → holds w p k ≡ true → may Read (transaction w t) ≡ true →
-    read_call w t k p ≡ read_open w t k p (transaction w t) (get_or (transaction w t).written k None)
-read_reaches w t k p begun there key held may_read_lem =
-    cond-true (is_begun w t) _ _ begun ∙ cond-true (is_node w p) _ _ there ∙ cond-true (is_key w k) _ _ key ∙ cond-true (holds w p k) _ _ held
-    ∙ cond-true (may Read (transaction w t)) _ _ may_read_lem
+    read_call w t k p ≡ read_open w t k p (transaction w t) (slice_index_or (transaction w t).written k None)
+read_reaches w t k p begun there key held may_read_lem = grind (arith, nat_tests)
 
 -- a writer that is engaged there is counted
 counted_there : (w : World) (p k : ℕ) (xs : List Transaction) (i : ℕ) (d : Transaction) → i < length xs →
-    (marked (get_or xs i d).engaged p && (wrote (get_or xs i d) k && holds w p k)) ≡ true → 0 < engaged_writers w p k xs
+    (marked (slice_index_or xs i d).engaged p && (wrote (slice_index_or xs i d) k && holds w p k)) ≡ true → 0 < engaged_writers w p k xs
 counted_there w p k [] i d l e = absurd (omega arith)
 counted_there w p k (x ∷ xs) zero d l e = rw e (omega arith)
 counted_there w p k (x ∷ xs) (suc i) d l e = let r = counted_there w p k xs i d (omega arith) e in omega arith
@@ -82,16 +76,11 @@ record Marks (t p value writer : ℕ) (o : Outcome) : Type 0 where
 
 checked : {t p value writer : ℕ} (passed : Bool) (w : World) (refusal : Refusal) (rest : Outcome) → (passed ≡ true → Marks t p value writer rest) →
     Marks t p value writer (check passed w refusal rest)
-checked true w refusal rest f = f refl
-checked false w refusal rest f = record { at_node = λ e. let z : ◌≡◌ {A = ℕ} 0 1 = cc in absurd (omega arith) }
+checked passed w refusal rest e1 = grind (arith, nat_tests)
 
 module _ (w : World) (t k p value writer : ℕ) (few : length w.nodes ≤ 8) (rows : is_begun w t ≡ true → length (transaction w t).read ≡ 8) where
-  there_after : is_begun w t ≡ true → p < length w.nodes → (x : Transaction) → x.read ≡ set (transaction w t).read p true → marked (transaction (with_transaction w t x) t).read p ≡ true
-  there_after begun l x e =
-      let i : t - 1 < length w.transactions = grind (arith, tells) in
-      let r = rows begun in
-      ap (λ (y : Transaction). marked y.read p) (get_or-set_same w.transactions (t - 1) x _ i)
-      ∙ ap (λ (row : List Bool). marked row p) e ∙ get_or-set_same (transaction w t).read p true false (omega arith)
+  there_after : is_begun w t ≡ true → p < length w.nodes → (x : Transaction) → x.read ≡ slice_set (transaction w t).read p true → marked (transaction (with_transaction w t x) t).read p ≡ true
+  there_after begun l x e = grind (arith, nat_tests, common_steps)
 
   abbrev noted_after : Transaction
   noted_after = has_noted k (visible w (transaction w t) k p).writer (has_read p (clock_after w (transaction w t) p) (transaction w t))
@@ -105,8 +94,8 @@ module _ (w : World) (t k p value writer : ℕ) (few : length w.nodes ≤ 8) (ro
       (λ g. record { at_node = λ e. there_after begun l noted_after refl }))
 
   read_open_marks : is_begun w t ≡ true → p < length w.nodes → (own : Option ℕ) → own ≡ None → Marks t p value writer (read_open w t k p (transaction w t) own)
-  read_open_marks begun l None e = checked (leb (slot (transaction w t).clock p) (node w p).frontier) w NotYet (read_by w t k p (transaction w t) (transaction w t).kind) (λ f. read_by_marks begun l (transaction w t).kind)
-  read_open_marks begun l (Some x) e = let z : ◌≡◌ {A = ℕ} 0 1 = cc in absurd (omega arith)
+  read_open_marks begun l None e = checked (nat_le (slot (transaction w t).clock p) (node w p).frontier) w NotYet (read_by w t k p (transaction w t) (transaction w t).kind) (λ f. read_by_marks begun l (transaction w t).kind)
+  read_open_marks begun l (Some x) e = absurd cc
 
   read_marks : (is_begun w t ≡ true → wrote (transaction w t) k ≡ false) → Marks t p value writer (read_call w t k p)
   read_marks not_written =
@@ -115,12 +104,10 @@ module _ (w : World) (t k p value writer : ℕ) (few : length w.nodes ≤ 8) (ro
       checked (is_key w k) w NoSuchKey _ (λ key.
       checked (holds w p k) w KeyNotHeld _ (λ held.
       checked (may Read (transaction w t)) w WrongState _ (λ m.
-      read_open_marks begun (ltb-true p (length w.nodes) there) (get_or (transaction w t).written k None) (is_none (get_or (transaction w t).written k None) (not_written begun)))))))
+      read_open_marks begun (ltb-true p (length w.nodes) there) (slice_index_or (transaction w t).written k None) (is_none (slice_index_or (transaction w t).written k None) (not_written begun)))))))
 
 only_there : (b c before : Bool) → before ≡ false → cond (b && c) true before ≡ true → c ≡ true
-only_there true true before e f = refl
-only_there true false before e f = absurd (both_ways before e f)
-only_there false c before e f = absurd (both_ways before e f)
+only_there b c before e1 e2 = grind (arith, nat_tests)
 
 -- only a read tells that something was got
 abbrev is_got : Told → Bool
@@ -142,10 +129,7 @@ module _ (placement : List ℕ) (calls : Transcript) (w : World) (tie : Tied pla
   same_holders p k = ap (λ (l : List ℕ). placed l p k) tie.same_placement
 
   few_holders : (p k : ℕ) → placed placement p k ≡ true → p < 8
-  few_holders p k e =
-      let a = (tie.invariant.holders p k (same_holders p k ∙ e)).0 in
-      let b = tie.invariant.few_nodes in
-      omega arith
+  few_holders p k e = grind (arith, nat_tests)
 
   stands : HistoryStands (placed placement) 256 8 h (view w)
   stands = histories_stand (placed placement) 256 8 (lit< tt) few_holders h (view w) tie.reachable
@@ -195,11 +179,7 @@ module _ (placement : List ℕ) (calls : Transcript) (w : World) (tie : Tied pla
   writers_same k order = ap (λ (f : ℕ → List Operation). versions_by f k order) scripts_same
 
   chain_ends : (p k : ℕ) → chain_of w p k ≡ protocol.chain (view w) p k ++ first_version ∷ []
-  chain_ends p k = ap (λ (l : List Stored). map version_of l) (sym (tie.invariant.first_last p k)) ∙ map_append (without_last (w.store p k).versions)
-    where
-      map_append : (l : List Stored) → map version_of (l ++ store.first_version ∷ []) ≡ map version_of l ++ first_version ∷ []
-      map_append [] = refl
-      map_append (v ∷ l) = ap (λ (x : List Version). version_of v ∷ x) (map_append l)
+  chain_ends p k = grind (arith, nat_tests, common_steps)
 
   lists_writers : (p k : ℕ) → holds w p k ≡ true → ListsWriters calls w p k
   lists_writers p k e = ⊎_elim
@@ -210,30 +190,23 @@ module _ (placement : List ℕ) (calls : Transcript) (w : World) (tie : Tied pla
       same : statements.writers h k (history.decisions h) ≡ writers calls k (decisions calls)
       same = writers_same k (history.decisions h) ∙ ap (λ (d : List ℕ). writers calls k d) decisions_same
 
-  -- what the view shows of a transaction that is begun
-  shown : (t : ℕ) → is_begun w t ≡ true → (view w).transaction t ≡ transaction_of (transaction w t)
-  shown t b = cond-true (is_begun w t) (transaction_of (transaction w t)) ((protocol.fresh).transaction t) b
-
   committed_begun : (u : ℕ) → Member u (decisions calls) → is_begun w u ≡ true
   committed_begun u m = sym (view_begun w u) ∙ ap is_under_way (stands.decision_order_serial.only u (member_back u m))
 
   searches_uncommitted : (t : ℕ) → is_begun w t ≡ true → (transaction w t).kind ≡ Search → Member t (decisions calls) → ⊥
   searches_uncommitted t b e m =
-      one_kind (protocol.kind (view w) t) (ap (λ (x : protocol.Transaction). x.kind) (shown t b) ∙ ap kind_of e)
+      one_kind (protocol.kind (view w) t) (ap (λ (x : protocol.Transaction). x.kind) (shown w t b) ∙ ap kind_of e)
       ((invariants (placed placement) 256 tie.reachable).scripts.offered_update t (ap frozen (stands.decision_order_serial.only t (member_back t m))))
 
   -- numbers
   begun_few : (8 + 1) * length (history.begun h) * 256 ≤ 587775
-  begun_few =
-      let a = tie.few_begun in
-      let b = tie.invariant.few_transactions in
-      omega arith
+  begun_few = grind (arith, nat_tests)
 
   small : (n : ℕ) → n ≤ (8 + 1) * length (history.begun h) * 256 → n ≤ 587775
   small n l = let a = begun_few in omega arith
 
   small_shown : (f : protocol.Transaction → ℕ) (t : ℕ) → is_begun w t ≡ true → f ((view w).transaction t) ≤ (8 + 1) * length (history.begun h) * 256 → f (transaction_of (transaction w t)) ≤ 587775
-  small_shown f t b l = small (f (transaction_of (transaction w t))) (subst (λ (x : protocol.Transaction). f x ≤ (8 + 1) * length (history.begun h) * 256) (shown t b) l)
+  small_shown f t b l = grind (arith, nat_tests)
 
   numbers_small : NumbersWithin 587775 w
   numbers_small =
@@ -241,12 +214,9 @@ module _ (placement : List ℕ) (calls : Transcript) (w : World) (tie : Tied pla
       record {
         counters = λ p. small (node w p).counter (n.counters p);
         frontiers = λ p. small (node w p).frontier (n.frontiers p);
-        seen_clocks = λ p q. small (slot (node w p).seen q) (n.seen_clocks p q);
-        stamps = λ t b. small_shown (λ (x : protocol.Transaction). x.outcome.stamp) t b (n.stamps t);
-        numbers = λ t p b.
-            small (slot (transaction w t).numbers p)
-            (subst (λ (x : protocol.Participation). x.number ≤ (8 + 1) * length (history.begun h) * 256)
-            (cond-true (is_begun w t) (participation_of (transaction w t) p) ((protocol.fresh).participation t p) b) (n.numbers t p));
+        seen_clocks = λ p q. grind (arith, nat_tests, common_steps);
+        stamps = λ t b. grind (arith, nat_tests, common_steps);
+        numbers = grind (arith, nat_tests, common_steps);
         clocks = λ t q b. small_shown (λ (x : protocol.Transaction). x.reading.clock q) t b (n.clocks t q);
         vote_clocks = λ t q b. small_shown (λ (x : protocol.Transaction). x.outcome.vote_clock q) t b (n.vote_clocks t q);
         commit_clocks = λ t q b. small_shown (λ (x : protocol.Transaction). x.outcome.commit_clock q) t b (n.commit_clocks t q);
@@ -254,7 +224,7 @@ module _ (placement : List ℕ) (calls : Transcript) (w : World) (tie : Tied pla
 
   -- stamps
   stamp_shown : (u : ℕ) → Member u (decisions calls) → protocol.stamp (view w) u ≡ (transaction w u).stamp
-  stamp_shown u m = ap (λ (x : protocol.Transaction). x.outcome.stamp) (shown u (committed_begun u m))
+  stamp_shown u m = ap (λ (x : protocol.Transaction). x.outcome.stamp) (shown w u (committed_begun u m))
 
   later_first : (t u : ℕ) (l : List ℕ) → Later t u l → Member t l × Member u l
   later_first t u [] m = absurd m
@@ -278,7 +248,7 @@ module _ (placement : List ℕ) (calls : Transcript) (w : World) (tie : Tied pla
   yet_to_apply t p b y =
       let m : Member y.update (decisions calls) = subst (λ (d : List ℕ). Member y.update d) decisions_same y.committed in
       let x = stamp_shown y.update m in
-      let c = ap (λ (z : protocol.Transaction). z.reading.clock p) (shown t b) in
+      let c = ap (λ (z : protocol.Transaction). z.reading.clock p) (shown w t b) in
       let l = y.not_above in
       record {
         update = y.update;
@@ -291,7 +261,7 @@ module _ (placement : List ℕ) (calls : Transcript) (w : World) (tie : Tied pla
   behind : (t p : ℕ) → is_begun w t ≡ true → YetToApply calls w t p → statements.YetToApply (placed placement) h (view w) t p
   behind t p b y =
       let x = stamp_shown y.update y.committed in
-      let c = ap (λ (z : protocol.Transaction). z.reading.clock p) (shown t b) in
+      let c = ap (λ (z : protocol.Transaction). z.reading.clock p) (shown w t b) in
       let l = y.not_above in
       record {
         update = y.update;
@@ -304,38 +274,38 @@ module _ (placement : List ℕ) (calls : Transcript) (w : World) (tie : Tied pla
   unwritten : (t k : ℕ) → is_begun w t ≡ true → (transaction w t).kind ≡ Search → wrote (transaction w t) k ≡ false
   unwritten t k b e = ⊎_elim
       (λ (x : wrote (transaction w t) k ≡ true).
-      absurd (one_kind {A = ⊥} (protocol.kind (view w) t) (ap (λ (x : protocol.Transaction). x.kind) (shown t b) ∙ ap kind_of e)
-      (writers_update (placed placement) 256 tie.reachable t k (ap (λ (x : protocol.Transaction). x.writing.wrote k) (shown t b) ∙ x))))
+      absurd (one_kind {A = ⊥} (protocol.kind (view w) t) (ap (λ (x : protocol.Transaction). x.kind) (shown w t b) ∙ ap kind_of e)
+      (writers_update (placed placement) 256 tie.reachable t k (ap (λ (x : protocol.Transaction). x.writing.wrote k) (shown w t b) ∙ x))))
       (λ (x : wrote (transaction w t) k ≡ false). x)
       (cases_Bool (wrote (transaction w t) k))
 
   search_read : (free : FreeRule) (t k p : ℕ) → OpenSearch w t → holds w p k ≡ true →
-      step free w (read t k p) ≡ check (leb (slot (transaction w t).clock p) (node w p).frontier) w NotYet (read_by w t k p (transaction w t) Search)
+      step free w (read t k p) ≡ check (nat_le (slot (transaction w t).clock p) (node w p).frontier) w NotYet (read_by w t k p (transaction w t) Search)
   search_read free t k p o held =
       let place = tie.invariant.holders p k held in
       read_reaches w t k p o.0 (lt-ltb p (length w.nodes) place.0) (lt-ltb k (length w.placement) place.1) held (ap is_open o.2)
-      ∙ ap (λ (x : Option ℕ). read_open w t k p (transaction w t) x) (is_none (get_or (transaction w t).written k None) (unwritten t k o.0 o.1))
-      ∙ ap (λ (x : Kind). check (leb (slot (transaction w t).clock p) (node w p).frontier) w NotYet (read_by w t k p (transaction w t) x)) o.1
+      ∙ ap (λ (x : Option ℕ). read_open w t k p (transaction w t) x) (is_none (slice_index_or (transaction w t).written k None) (unwritten t k o.0 o.1))
+      ∙ ap (λ (x : Kind). check (nat_le (slot (transaction w t).clock p) (node w p).frontier) w NotYet (read_by w t k p (transaction w t) x)) o.1
 
   refused_if_behind : (free : FreeRule) (t k p : ℕ) → OpenSearch w t → holds w p k ≡ true → YetToApply calls w t p → (step free w (read t k p)).0 ≡ Refused NotYet
   refused_if_behind free t k p o held y =
       let lt : (node w p).frontier < protocol.clock (view w) t p = (stands.behind_exactly t p).1 (behind t p o.0 y) in
-      let c : protocol.clock (view w) t p ≡ slot (transaction w t).clock p = ap (λ (z : protocol.Transaction). z.reading.clock p) (shown t o.0) in
+      let c : protocol.clock (view w) t p ≡ slot (transaction w t).clock p = ap (λ (z : protocol.Transaction). z.reading.clock p) (shown w t o.0) in
       ap (λ (x : Outcome). x.0) (search_read free t k p o held)
-      ∙ fails (leb (slot (transaction w t).clock p) (node w p).frontier) w NotYet (read_by w t k p (transaction w t) Search) (lt-leb (slot (transaction w t).clock p) (node w p).frontier (omega arith))
+      ∙ fails (nat_le (slot (transaction w t).clock p) (node w p).frontier) w NotYet (read_by w t k p (transaction w t) Search) (lt-leb (slot (transaction w t).clock p) (node w p).frontier (omega arith))
 
   refused_only_if_behind : (free : FreeRule) (t k p : ℕ) → OpenSearch w t → holds w p k ≡ true → (r : Refusal) → (step free w (read t k p)).0 ≡ Refused r → YetToApply calls w t p
   refused_only_if_behind free t k p o held r e =
-      let f : leb (slot (transaction w t).clock p) (node w p).frontier ≡ false =
-      refused_there (leb (slot (transaction w t).clock p) (node w p).frontier) w (with_transaction w t (has_read p (clock_after w (transaction w t) p) (transaction w t))) NotYet r (visible w (transaction w t) k p).value (visible w (transaction w t) k p).writer
+      let f : nat_le (slot (transaction w t).clock p) (node w p).frontier ≡ false =
+      refused_there (nat_le (slot (transaction w t).clock p) (node w p).frontier) w (with_transaction w t (has_read p (clock_after w (transaction w t) p) (transaction w t))) NotYet r (visible w (transaction w t) k p).value (visible w (transaction w t) k p).writer
       (ap (λ (x : Outcome). x.0) (sym (search_read free t k p o held)) ∙ e) in
       let lt : (node w p).frontier < slot (transaction w t).clock p = leb-false (slot (transaction w t).clock p) (node w p).frontier f in
-      let c : protocol.clock (view w) t p ≡ slot (transaction w t).clock p = ap (λ (z : protocol.Transaction). z.reading.clock p) (shown t o.0) in
+      let c : protocol.clock (view w) t p ≡ slot (transaction w t).clock p = ap (λ (z : protocol.Transaction). z.reading.clock p) (shown w t o.0) in
       yet_to_apply t p o.0 ((stands.behind_exactly t p).0 (omega arith))
 
   places_kept : (t p k : ℕ) → is_begun w t ≡ true → marked (transaction w t).engaged p ≡ true → wrote (transaction w t) k ≡ true → holds w p k ≡ true → aside_there w.store p k ≡ true
   places_kept t p k b e x held =
-      let i : t - 1 < length w.transactions = grind (arith, tells) in
+      let i : t - 1 < length w.transactions = grind (arith, nat_tests) in
       let c = counted_there w p k w.transactions (t - 1) (new_transaction Search) i (and_from _ _ e (and_from _ _ x held)) in
       let a = tie.invariant.places p k in
       let place = tie.invariant.holders p k held in
@@ -374,14 +344,10 @@ module _ (placement : List ℕ) (calls : Transcript) (w : World) (tie : Tied pla
     -- the node that the event read at is the node of the call: no other is marked
     there : (w' : World) (e : Event) → view w' ≡ protocol.next (placed placement) (view w) e → protocol.status (view w) t ≡ protocol.Open →
         marked (transaction w' t).read p ≡ true → protocol.read_at (protocol.next (placed placement) (view w) e) t p ≡ true
-    there w' e v o m =
-        let b : is_begun w' t ≡ true = sym (view_begun w' t) ∙ ap (λ (s : State). is_under_way (protocol.status s t)) v ∙ stays_begun (placed placement) (view w) e t (ap is_under_way o) in
-        ap (λ (s : State). protocol.read_at s t p) (sym v)
-        ∙ ap (λ (x : protocol.Transaction). x.reading.read_at p) (cond-true (is_begun w' t) (transaction_of (transaction w' t)) ((protocol.fresh).transaction t) b) ∙ m
+    there w' e v o m = grind (arith, nat_tests, common_steps)
 
     at_event : (w' : World) (e : Event) → protocol.Accepted (placed placement) 256 (view w) e → view w' ≡ protocol.next (placed placement) (view w) e →
         got t k (version value writer) ≡ told_by (history.mark e) → marked (transaction w' t).read p ≡ true → version value writer ≡ newest_applied calls p k
-    at_event w' (protocol.begin u x) ok v g m = no_read _ t k (version value writer) refl g
     at_event w' (protocol.read_own u j a) ok v g m =
         let tu : t ≡ u = cc in
         let kj : k ≡ j = cc in
@@ -392,28 +358,15 @@ module _ (placement : List ℕ) (calls : Transcript) (w : World) (tie : Tied pla
         let va : version value writer ≡ a = cc in
         let o : protocol.status (view w) t ≡ protocol.Open = ap (λ (x : ℕ). protocol.status (view w) x) tu ∙ ok.0.open_now in
         let r = there w' (protocol.read_search u j q a c) v o m in
-        settle u j q a c tu kj (sym (eqb-true q p (only_there (eqb u t) (eqb q p) (protocol.read_at (view w) t p) (unread p) r))) va ok.0
+        settle u j q a c tu kj (sym (eqb-true q p (only_there (u == t) (q == p) (protocol.read_at (view w) t p) (unread p) r))) va ok.0
     at_event w' (protocol.read_update u j q a c) ok v g m =
         let tu : t ≡ u = cc in
         let kj : k ≡ j = cc in
         let va : version value writer ≡ a = cc in
         let o : protocol.status (view w) t ≡ protocol.Open = ap (λ (x : ℕ). protocol.status (view w) x) tu ∙ ok.0.open_now in
         let r = there w' (protocol.read_update u j q a c) v o m in
-        settle u j q a c tu kj (sym (eqb-true q p (only_there (eqb u t) (eqb q p) (protocol.read_at (view w) t p) (unread p) r))) va ok.0
-    at_event w' (protocol.write u j x) ok v g m = no_read _ t k (version value writer) refl g
-    at_event w' (protocol.offer u) ok v g m = no_read _ t k (version value writer) refl g
-    at_event w' (protocol.yes_write u q n) ok v g m = no_read _ t k (version value writer) refl g
-    at_event w' (protocol.yes_read u q) ok v g m = no_read _ t k (version value writer) refl g
-    at_event w' (protocol.no_overtaken u q j) ok v g m = no_read _ t k (version value writer) refl g
-    at_event w' (protocol.no_place u q j) ok v g m = no_read _ t k (version value writer) refl g
-    at_event w' (protocol.commit u n c) ok v g m = no_read _ t k (version value writer) refl g
-    at_event w' (protocol.abort u) ok v g m = no_read _ t k (version value writer) refl g
-    at_event w' (protocol.cancel u) ok v g m = no_read _ t k (version value writer) refl g
-    at_event w' (protocol.learn_abort u q) ok v g m = no_read _ t k (version value writer) refl g
-    at_event w' (protocol.learn_write u q) ok v g m = no_read _ t k (version value writer) refl g
-    at_event w' (protocol.learn_read u q) ok v g m = no_read _ t k (version value writer) refl g
-    at_event w' (protocol.apply u q) ok v g m = no_read _ t k (version value writer) refl g
-    at_event w' (protocol.finish u) ok v g m = no_read _ t k (version value writer) refl g
+        settle u j q a c tu kj (sym (eqb-true q p (only_there (u == t) (q == p) (protocol.read_at (view w) t p) (unread p) r))) va ok.0
+    at_event w' e ok v g m = no_read _ t k (version value writer) refl g
 
     at_outcome : (o : Outcome) → ComesTo placement calls w (read t k p) tie o placement → o.0 ≡ Found value writer → marked (transaction o.1 t).read p ≡ true →
         version value writer ≡ newest_applied calls p k
@@ -425,7 +378,7 @@ module _ (placement : List ℕ) (calls : Transcript) (w : World) (tie : Tied pla
     first_read free good e =
         at_outcome (step free w (read t k p))
         (subst (λ (places : List ℕ). ComesTo placement calls w (read t k p) tie (step free w (read t k p)) places) tie.same_placement good.refines) e
-        ((read_marks w t k p value writer tie.invariant.few_nodes (λ b. (tie.invariant.shaped t b).read) (λ b. ap (λ (x : protocol.Transaction). x.writing.wrote k) (sym (shown t b)) ∙ not_wrote)).at_node e)
+        ((read_marks w t k p value writer tie.invariant.few_nodes (λ b. (tie.invariant.shaped t b).read) (λ b. ap (λ (x : protocol.Transaction). x.writing.wrote k) (sym (shown w t b)) ∙ not_wrote)).at_node e)
 
   -- all of them
   pub promises : (free : FreeRule) → ((request : Request) → GoodStep free w request) → ((t : ℕ) → IsSearch calls t → Searched calls w t) → Promises free calls w
@@ -445,7 +398,7 @@ module _ (placement : List ℕ) (calls : Transcript) (w : World) (tie : Tied pla
   }
     where
       open_there : (t : ℕ) → IsOpenSearch calls t → OpenSearch w t
-      open_there t o = ((searches t o.0).begun, (searches t o.0).search, ⊎_elim (λ (e : (transaction w t).state ≡ Open). e) (λ (f : Answered (finish t) Done calls). absurd (o.1 f)) (searches t o.0).state)
+      open_there t o = grind (arith, nat_tests)
 
 -- every call keeps the invariant and refines the protocol, and a made world is where it starts
 module _ (good : (free : FreeRule) (w : World) (request : Request) → Invariant w → GoodStep free w request)

@@ -1,8 +1,9 @@
 -- Reading: the answer is the newest version that passes.
-use Rattle.std.proofs.Common.{◌≡◌, ℕ, ◌<◌, ◌≤◌, Bool, true, false, cond, ◌||◌, eqb, leb, List, [], ◌∷◌, ◌++◌, map, length, get_or, set, Some, None, Decides, Option, sym, refl, ap, ◌∙◌, subst, inl, inr, ⊎_elim, arith}
+use Rattle.std.proofs.Common.{◌≡◌, ℕ, ◌<◌, ◌≤◌, Bool, true, false, cond, ◌||◌, nat_le, List, [], ◌∷◌, ◌++◌, map, length, slice_index_or, slice_set, Some, None, Decides, Option, sym, refl, ap, ◌∙◌, subst, inl, inr, ⊎_elim, arith, ◌==◌}
 use Rattle.std.proofs.lemmas.List.{length-set}
-use Rattle.std.proofs.lemmas.Bool.{or_cases, or_left, or_right, ltb-true, leb-true, cases_eq, cases_Bool, both_ways, ne_eqb, eq-eqb}
-use Rattle.std.proofs.lemmas.Bool.Decides.{not_from_Decides}
+use Rattle.std.proofs.lemmas.Bool.{ltb-true, leb-true, cases_Bool}
+use Rattle.std.proofs.lemmas.Bool.Decides.{not_from_Decides, nat_tests}
+use Rattle.std.proofs.lemmas.Grind.{common_steps}
 use Rattle.calls.specs.declared.answer.Answer.TheVariants.{Found}
 use Rattle.calls.specs.declared.refusal.Refusal.TheVariants.{NoSuchTransaction, NoSuchNode, NoSuchKey, KeyNotHeld, WrongState, NotYet, Overtaken, TooManyKeysRead}
 use Rattle.calls.specs.Requests.{read}
@@ -17,7 +18,7 @@ use Rattle.rules.specs.declared.records.State.TheVariants.{Open}
 use Rattle.rules.specs.declared.records.Event.TheVariants.{Read}
 use Rattle.rules.specs.declared.records.Transaction.{Transaction}
 use Rattle.rules.specs.World.{World, is_begun, is_node, is_key, holds, node, transaction, with_transaction, is_there, value_or, noted, wrote, is_write_node}
-use Rattle.rules.specs.Changes.{may, is_offered, has_read, has_noted}
+use Rattle.rules.specs.Changes.{may, has_read, has_noted}
 use Rattle.rules.specs.Reading.{commit_clock, clock_after, version_passes, newest_passing, newest_passes, visible, can_note, read_by, read_open}
 use Rattle.rules.proofs.View.{view, placed, status_of, kind_of, transaction_of, version_of, without_last}
 use Rattle.rules.proofs.Invariant.{Invariant, GoodStep}
@@ -25,8 +26,8 @@ use Rattle.rules.proofs.Checks.{GoodOutcome, good_step, checked}
 use Rattle.rules.proofs.Views.{view_change, view_begun, marked_set}
 use Rattle.rules.proofs.Keeping.{Fits, fits, keeps_transaction}
 use Rattle.rules.proofs.States.{open_is}
-use Rattle.rules.proofs.Writes.{status_seen, kind_seen, there_set, value_set}
-use Rattle.rules.proofs.Joins.{pass_decides, commit_seen, clock_seen, read_seen, after_length, after_joined}
+use Rattle.rules.proofs.Writes.{status_seen, kind_seen}
+use Rattle.rules.proofs.Joins.{pass_decides, commit_seen, read_seen, after_length, after_joined}
 
 -- ── The newest version that passes ──
 
@@ -55,42 +56,25 @@ module _ (s : protocol.State) (read_at : ℕ → Bool) (clock : protocol.Clock) 
 newest_writer_seen : (test : Stored → Bool) (vs : List Stored) → without_last vs ++ first_version ∷ [] ≡ vs → newest_passes test vs ≡ true →
     (newest_passing test vs).writer ≡ (newest (map version_of (without_last vs))).writer
 unfolding newest_passing
-newest_writer_seen test [] first e = refl
-newest_writer_seen test (v ∷ []) first e = rw e (ap (λ (x : Stored). x.writer) (only_first v first))
-newest_writer_seen test (v ∷ u ∷ older) first e = rw e refl
+newest_writer_seen test vs e1 e2 = grind (arith, nat_tests)
 
 -- ── The transaction after ──
 
-read_row : (row : List Bool) (p q : ℕ) → p < length row → marked (set row p true) q ≡ (eqb p q || marked row q)
+read_row : (row : List Bool) (p q : ℕ) → p < length row → marked (slice_set row p true) q ≡ (p == q || marked row q)
 read_row row p q l = marked_set row p q true l ∙ grind arith
 
 has_read_seen : (x : Transaction) (p : ℕ) (clock : List ℕ) → p < length x.read →
     transaction_of (has_read p clock x) ≡ protocol.reads p (λ q. slot clock q) true (transaction_of x)
-has_read_seen x p clock l = λ i. record {
-  kind = kind_of x.kind;
-  status = status_of x.state;
-  reading = record { clock = λ q. slot clock q; read_at = λ q. marked_set x.read p q true l i; noted = (transaction_of x).reading.noted; noted_writer = (transaction_of x).reading.noted_writer };
-  writing = (transaction_of x).writing;
-  outcome = (transaction_of x).outcome;
-}
+has_read_seen x p clock l = grind (arith, nat_tests, common_steps)
 
 module _ (x : Transaction) (k writer : ℕ) (room : k < length x.noted) where
-  noted_after : (j : ℕ) → noted (has_noted k writer x) j ≡ cond (eqb k j) true (noted x j)
-  noted_after j =
-      ⊎_elim
-      (λ (e : noted x k ≡ true).
-      rw e (⊎_elim (λ (h : k ≡ j). let here : noted x j ≡ true = subst (λ (i : ℕ). noted x i ≡ true) h e in rw (here) (grind arith)) (λ (h : k ≡ j → ⊥). rw (ne_eqb k j h) refl) (cases_eq k j)))
-      (λ (e : noted x k ≡ false). rw e (there_set x.noted k j writer room))
-      (cases_Bool (noted x k))
+  noted_after : (j : ℕ) → noted (has_noted k writer x) j ≡ cond (k == j) true (noted x j)
+  noted_after j = grind (arith, nat_tests, common_steps)
 
-  noted_writer_after : (j : ℕ) → value_or (get_or (has_noted k writer x).noted j None) 0 ≡ cond (eqb k j) (cond (noted x k) (value_or (get_or x.noted k None) 0) writer) (value_or (get_or x.noted j None) 0)
-  noted_writer_after j =
-      ⊎_elim
-      (λ (e : noted x k ≡ true). rw e (⊎_elim (λ (h : k ≡ j). rw (eq-eqb k j h, h) refl) (λ (h : k ≡ j → ⊥). rw (ne_eqb k j h) refl) (cases_eq k j)))
-      (λ (e : noted x k ≡ false). rw e (value_set x.noted k j writer room))
-      (cases_Bool (noted x k))
+  noted_writer_after : (j : ℕ) → value_or (slice_index_or (has_noted k writer x).noted j None) 0 ≡ cond (k == j) (cond (noted x k) (value_or (slice_index_or x.noted k None) 0) writer) (value_or (slice_index_or x.noted j None) 0)
+  noted_writer_after j = grind (arith, nat_tests, common_steps)
 
-  has_noted_seen : transaction_of (has_noted k writer x) ≡ protocol.notes k (cond (noted x k) (value_or (get_or x.noted k None) 0) writer) true (transaction_of x)
+  has_noted_seen : transaction_of (has_noted k writer x) ≡ protocol.notes k (cond (noted x k) (value_or (slice_index_or x.noted k None) 0) writer) true (transaction_of x)
   has_noted_seen = λ i. record {
     kind = kind_of x.kind;
     status = status_of x.state;
@@ -101,65 +85,22 @@ module _ (x : Transaction) (k writer : ℕ) (room : k < length x.noted) where
 
 fits_read : (w : World) (x : Transaction) (p : ℕ) (clock : List ℕ) → length clock ≡ 8 → Fits w x → Fits w (has_read p clock x)
 unfolding is_write_node
-fits_read w x p clock wide f = record {
-  shaped = record {
-    clock = wide;
-    read = length-set x.read p true ∙ f.shaped.read;
-    noted = f.shaped.noted;
-    written = f.shaped.written;
-    voted = f.shaped.voted;
-    engaged = f.shaped.engaged;
-    numbers = f.shaped.numbers;
-    votes = f.shaped.votes;
-    learned = f.shaped.learned;
-    applied = f.shaped.applied;
-    commit = f.shaped.commit;
-  };
-  keys_only = f.keys_only;
-  polled_sound = f.polled_sound;
-  polled_all = f.polled_all;
-  numbers_there = f.numbers_there;
-  open_idle = f.open_idle;
-  engaged_voted = f.engaged_voted;
-}
+fits_read w x p clock wide f = grind (arith, nat_tests, common_steps)
 
 module _ (w : World) (x : Transaction) (k writer : ℕ) (key : k < length w.placement) (room : k < length x.noted) (open_now : x.state ≡ Open) (f : Fits w x) where
-  noted_length : length (has_noted k writer x).noted ≡ 64
-  noted_length =
-      ⊎_elim (λ (e : noted x k ≡ true). rw e f.shaped.noted) (λ (e : noted x k ≡ false). rw e (length-set x.noted k (Some writer) ∙ f.shaped.noted)) (cases_Bool (noted x k))
-
   touched_still : (j : ℕ) → (noted x j || wrote x j) ≡ true → (noted (has_noted k writer x) j || wrote x j) ≡ true
-  touched_still j e =
-      ⊎_elim (λ (h : noted x j ≡ true). or_left (noted (has_noted k writer x) j) (wrote x j) (noted_after x k writer room j ∙ rw h (grind arith)))
-      (λ (h : wrote x j ≡ true). or_right (noted (has_noted k writer x) j) (wrote x j) h) (or_cases (noted x j) (wrote x j) e)
+  touched_still j e = grind (arith, nat_tests, common_steps)
 
   touched_key : (j : ℕ) → (noted (has_noted k writer x) j || wrote x j) ≡ true → j < length w.placement
-  touched_key j e =
-      ⊎_elim (λ (h : k ≡ j). subst (λ (i : ℕ). i < length w.placement) h key)
-      (λ (h : k ≡ j → ⊥).
-      let same : noted (has_noted k writer x) j ≡ noted x j = noted_after x k writer room j ∙ rw (ne_eqb k j h) refl in
-      f.keys_only j (subst (λ (b : Bool). (b || wrote x j) ≡ true) same e))
-      (cases_eq k j)
+  touched_key j e = grind (arith, nat_tests, common_steps)
 
   fits_noted : Fits w (has_noted k writer x)
   unfolding is_write_node
   fits_noted = record {
-    shaped = record {
-      clock = f.shaped.clock;
-      read = f.shaped.read;
-      noted = noted_length;
-      written = f.shaped.written;
-      voted = f.shaped.voted;
-      engaged = f.shaped.engaged;
-      numbers = f.shaped.numbers;
-      votes = f.shaped.votes;
-      learned = f.shaped.learned;
-      applied = f.shaped.applied;
-      commit = f.shaped.commit;
-    };
+    shaped = grind (arith, nat_tests, common_steps);
     keys_only = touched_key;
     polled_sound = λ p e. let found = f.polled_sound p e in (found.0, touched_still found.0 found.1, found.2);
-    polled_all = λ p j e. absurd (both_ways false refl (ap is_offered (sym open_now ∙ e)));
+    polled_all = λ p j e. grind (arith, nat_tests, common_steps);
     numbers_there = f.numbers_there;
     open_idle = f.open_idle;
     engaged_voted = f.engaged_voted;
@@ -191,11 +132,11 @@ module _ (w : World) (t k p : ℕ) (now : Invariant w) (begun : is_begun w t ≡
   note_room = omega (arith, (now.shaped t begun).noted, key_below, now.few_keys)
 
   -- A version passes after the read, in both languages.
-  version_decides : (v : Stored) → Decides (version_passes w reader p v) (protocol.Passes (protocol.commit_clock (view w) v.writer) (λ q. eqb p q || protocol.read_at (view w) t q) clock_then)
+  version_decides : (v : Stored) → Decides (version_passes w reader p v) (protocol.Passes (protocol.commit_clock (view w) v.writer) (λ q. (p == q) || protocol.read_at (view w) t q) clock_then)
   version_decides v =
-      let row : (q : ℕ) → marked (set reader.read p true) q ≡ (eqb p q || protocol.read_at (view w) t q) =
-      λ q. read_row reader.read p q read_room ∙ ap (λ (b : Bool). eqb p q || b) (sym (read_seen w t p now begun q)) in
-      let both = pass_decides (set reader.read p true) (commit_clock w v.writer) (clock_after w reader p) (length-set reader.read p true ∙ (now.shaped t begun).read) in (
+      let row : (q : ℕ) → marked (slice_set reader.read p true) q ≡ (p == q || protocol.read_at (view w) t q) =
+      λ q. read_row reader.read p q read_room ∙ ap (λ (b : Bool). (p == q) || b) (sym (read_seen w t p now begun q)) in
+      let both = pass_decides (slice_set reader.read p true) (commit_clock w v.writer) (clock_after w reader p) (length-set reader.read p true ∙ (now.shaped t begun).read) in (
         λ e q m. subst (λ (n : ℕ). n ≤ slot (clock_after w reader p) q) (sym (commit_seen w v.writer q)) (both.0 e q (row q ∙ m)),
         λ h. both.1 (λ q m. subst (λ (n : ℕ). n ≤ slot (clock_after w reader p) q) (commit_seen w v.writer q) (h q (sym (row q) ∙ m))),
       )
@@ -203,11 +144,11 @@ module _ (w : World) (t k p : ℕ) (now : Invariant w) (begun : is_begun w t ≡
   reads : wrote reader k ≡ false → slot reader.clock p ≤ (node w p).frontier → protocol.MayRead (placed w.placement) (view w) t k p seen_version clock_then
   reads unwritten settled = record {
     open_now = status_seen w t now begun Open reader_open;
-    unwritten = ap (λ (a : protocol.Transaction). a.writing.wrote k) (view_begun w t begun) ∙ unwritten;
+    unwritten = grind (arith, nat_tests, common_steps);
     held = held;
-    settled = subst (λ (n : ℕ). n ≤ (node w p).frontier) (sym (clock_seen w t p now begun p)) settled;
+    settled = grind (arith, nat_tests, common_steps);
     joined = after_joined w t p now begun;
-    answer = newest_seen (view w) (λ q. eqb p q || protocol.read_at (view w) t q) clock_then (version_passes w reader p) version_decides (w.store p k).versions (now.first_last p k);
+    answer = newest_seen (view w) (λ q. (p == q) || protocol.read_at (view w) t q) clock_then (version_passes w reader p) version_decides (w.store p k).versions (now.first_last p k);
   }
 
   fits_then : Fits w (has_read p (clock_after w reader p) reader)
@@ -229,8 +170,8 @@ module _ (w : World) (t k p : ℕ) (now : Invariant w) (begun : is_begun w t ≡
   updated = has_noted k (visible w reader k p).writer (has_read p (clock_after w reader p) reader)
 
   -- The writer that it has noted then.
-  note_seen : protocol.first_noted (view w) t k (visible w reader k p).writer ≡ cond (noted reader k) (value_or (get_or reader.noted k None) 0) (visible w reader k p).writer
-  note_seen = ap (λ (a : protocol.Transaction). cond (a.reading.noted k) (a.reading.noted_writer k) (visible w reader k p).writer) (view_begun w t begun)
+  note_seen : protocol.first_noted (view w) t k (visible w reader k p).writer ≡ cond (noted reader k) (value_or (slice_index_or reader.noted k None) 0) (visible w reader k p).writer
+  note_seen = grind (arith, nat_tests)
 
   updated_seen : transaction_of updated
       ≡ protocol.notes k (protocol.first_noted (view w) t k (visible w reader k p).writer) true (protocol.reads p clock_then true (transaction_of reader))
@@ -261,7 +202,7 @@ module _ (w : World) (t k p : ℕ) (now : Invariant w) (begun : is_begun w t ≡
       checked (newest_passes (version_passes w reader p) (w.store p k).versions) w (read t k p) Overtaken _ now
       (λ newest_one. checked (can_note reader k) w (read t k p) TooManyKeysRead _ now (λ room. update_read unwritten settled e newest_one))
 
-  read_now : (value : Option ℕ) → get_or reader.written k None ≡ value → GoodOutcome w (read t k p) (read_open w t k p reader value)
+  read_now : (value : Option ℕ) → slice_index_or reader.written k None ≡ value → GoodOutcome w (read t k p) (read_open w t k p reader value)
   read_now (Some value) e = record {
     same_placement = refl;
     keeps = now;
@@ -277,7 +218,7 @@ module _ (w : World) (t k p : ℕ) (now : Invariant w) (begun : is_begun w t ≡
     );
   }
   read_now None e =
-      checked (leb (slot reader.clock p) (node w p).frontier) w (read t k p) NotYet _ now
+      checked (nat_le (slot reader.clock p) (node w p).frontier) w (read t k p) NotYet _ now
       (λ settled. read_kind (ap (λ (o : Option ℕ). is_there o) e) (leb-true (slot reader.clock p) (node w p).frontier settled) reader.kind refl)
 
 pub read_good : (free : FreeRule) (w : World) (t k p : ℕ) → Invariant w → GoodStep free w (read t k p)
@@ -288,4 +229,4 @@ read_good free w t k p now =
     (λ there. checked (is_key w k) w (read t k p) NoSuchKey _ now
     (λ key. checked (holds w p k) w (read t k p) KeyNotHeld _ now
     (λ held. checked (may Read (transaction w t)) w (read t k p) WrongState _ now
-    (λ may_read_lem. read_now w t k p now begun there key held may_read_lem (get_or (transaction w t).written k None) refl))))))
+    (λ may_read_lem. read_now w t k p now begun there key held may_read_lem (slice_index_or (transaction w t).written k None) refl))))))

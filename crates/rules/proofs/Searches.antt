@@ -1,12 +1,14 @@
 -- What begins as a search stays one, and is open until a finish of it is accepted.
-use Rattle.std.proofs.Common.{◌≡◌, ℕ, zero, suc, ◌+◌, ◌-◌, ◌<◌, ◌≤◌, Bool, true, false, not, ◌&&◌, ◌||◌, ltb, leb, ◌⊎◌, List, [], ◌∷◌, ◌++◌, length, get_or, set, Some, None, Ok, Err, Option, Result, sym, refl, ap, ◌∙◌, subst, inl, inr, ⊎_elim, arith, length-append}
-use Rattle.std.proofs.lemmas.List.{length-set, get_or-set_same, get_or-set_other, get_or_append_left, get_or-append_right}
-use Rattle.std.proofs.lemmas.Bool.{cases_eq, both_ways}
+use Rattle.std.proofs.Common.{◌≡◌, ℕ, zero, ◌+◌, ◌-◌, Bool, true, false, not, ◌&&◌, ◌||◌, nat_lt, nat_le, ◌⊎◌, List, [], ◌∷◌, length, slice_index_or, slice_set, Some, None, Ok, Err, Option, Result, sym, refl, ap, ◌∙◌, subst, inl, inr, arith}
+use Rattle.std.proofs.lemmas.Bool.{both_ways}
 use Rattle.std.proofs.lemmas.Bool.Decides.{nat_tests}
+use Rattle.std.proofs.lemmas.Grind.{common_steps}
+use Rattle.rules.proofs.Begins.{begun_world}
+use Rattle.rules.proofs.Views.{begun_place}
 use Rattle.calls.specs.declared.answer.Answer.{Answer}
 use Rattle.calls.specs.declared.answer.Answer.TheVariants.{Done, Begun, Found, Polled, Yes, NoOvertaken, NoPlace, Committed, Aborted, Applied}
 use Rattle.calls.specs.declared.refusal.Refusal.{Refusal}
-use Rattle.calls.specs.declared.refusal.Refusal.TheVariants.{NoSuchTransaction, NoSuchNode, NoSuchKey, KeyNotHeld, BadRecord, MakeOutOfOrder, NumbersUsedUp, WrongState, NotYet, Overtaken, TooManyKeysRead, TooManyKeysWritten, NotPolled, AlreadyDone, Busy, VotesOutstanding, NothingToApply, NotLearned}
+use Rattle.calls.specs.declared.refusal.Refusal.TheVariants.{NoSuchTransaction, NoSuchNode, NoSuchKey, KeyNotHeld, MakeOutOfOrder, NumbersUsedUp, WrongState, NotYet, Overtaken, TooManyKeysRead, TooManyKeysWritten, NotPolled, AlreadyDone, Busy, VotesOutstanding, NothingToApply, NotLearned}
 use Rattle.calls.specs.Requests.{Request, make, begin, read, write, offer, prepare, decide, cancel, learn, apply, finish}
 use Rattle.clock.specs.Clocks.{slot, marked}
 use Rattle.store.specs.Model.{FreeRule, Meaning}
@@ -27,22 +29,8 @@ use Rattle.rules.specs.Steps.{begin_mode, step, world_after}
 use Rattle.rules.specs.Transcript.{Transcript, transcript_on}
 use Rattle.rules.specs.Promises.{Answered, IsSearch}
 
-begun_place : (w : World) (t : ℕ) → is_begun w t ≡ true → (0 < t) × (t - 1 < length w.transactions) × (t ≤ length w.transactions)
-begun_place w t b = grind (arith, nat_tests)
-
-begun_from : (w : World) (t : ℕ) → 0 < t → t ≤ length w.transactions → is_begun w t ≡ true
-begun_from w t a b = grind (arith, nat_tests)
-
-no_update : (k : Kind) (b : Bool) → k ≡ Search → (is_update k && b) ≡ true → ⊥
-no_update Search b e f = both_ways false refl f
-no_update Update b e f = let z : ◌≡◌ {A = ℕ} 0 1 = cc in omega arith
-
 not_offered : (s : State) → s ≡ Open → is_offered s ≡ true → ⊥
 not_offered s e f = both_ways (is_offered s) (ap is_offered e) f
-
--- one transaction more
-abbrev with_one_more : World → Kind → World
-with_one_more w kind = record { nodes = w.nodes; transactions = w.transactions ++ new_transaction kind ∷ []; placement = w.placement; store = w.store }
 
 -- a search t in a world, and what is left of it after a call
 module _ (w : World) (t : ℕ) (begun : is_begun w t ≡ true) (search : (transaction w t).kind ≡ Search) where
@@ -55,51 +43,23 @@ module _ (w : World) (t : ℕ) (begun : is_begun w t ≡ true) (search : (transa
   refused request refusal = record { begun_after = begun; search_after = search; open_after = λ e. inl e }
 
   checked : {request : Request} (passed : Bool) (refusal : Refusal) (rest : Outcome) → (passed ≡ true → Still request rest) → Still request (check passed w refusal rest)
-  checked true refusal rest f = f refl
-  checked {request} false refusal rest f = refused request refusal
+  checked passed refusal rest e1 = grind (arith, nat_tests)
 
   -- the transaction of a call is changed
-  module _ (request : Request) (answer : Answer) (after : World) (u : ℕ) (y : Transaction) (is : after.transactions ≡ set w.transactions (u - 1) y) where
-    found : transaction after t ≡ get_or (set w.transactions (u - 1) y) (t - 1) (new_transaction Search)
-    found = ap (λ (l : List Transaction). get_or l (t - 1) (new_transaction Search)) is
-
-    begun_there : is_begun after t ≡ true
-    begun_there =
-        let a = begun_place w t begun in
-        let l : length after.transactions ≡ length w.transactions = ap (λ (l : List Transaction). length l) is ∙ length-set w.transactions (u - 1) y in
-        begun_from after t a.0 (omega arith)
-
+  module _ (request : Request) (answer : Answer) (after : World) (u : ℕ) (y : Transaction) (is : after.transactions ≡ slice_set w.transactions (u - 1) y) where
     changed : (u - 1 ≡ t - 1 → y.kind ≡ Search) → (u - 1 ≡ t - 1 → (transaction w t).state ≡ Open → (y.state ≡ Open) ⊎ ((request ≡ finish t) × (answer ≡ Done))) → Still request (answer, after)
-    changed kind_kept state_kept = ⊎_elim
-        (λ (e : u - 1 ≡ t - 1).
-        let i : u - 1 < length w.transactions = let a = (begun_place w t begun).1 in omega arith in
-        let x : transaction after t ≡ y = found ∙ ap (λ (j : ℕ). get_or (set w.transactions (u - 1) y) j (new_transaction Search)) (sym e) ∙ get_or-set_same w.transactions (u - 1) y (new_transaction Search) i in
-        record {
-          begun_after = begun_there;
-          search_after = ap (λ (z : Transaction). z.kind) x ∙ kind_kept e;
-          open_after = λ o. subst (λ (z : Transaction). (z.state ≡ Open) ⊎ ((request ≡ finish t) × (answer ≡ Done))) (sym x) (state_kept e o);
-        })
-        (λ (n : u - 1 ≡ t - 1 → ⊥).
-        let x : transaction after t ≡ transaction w t = found ∙ get_or-set_other w.transactions (u - 1) (t - 1) y (new_transaction Search) (λ e. n (sym e)) in
-        record {
-          begun_after = begun_there;
-          search_after = ap (λ (z : Transaction). z.kind) x ∙ search;
-          open_after = λ o. inl (ap (λ (z : Transaction). z.state) x ∙ o);
-        })
-        (cases_eq (u - 1) (t - 1))
+    changed kind_kept state_kept = grind (arith, nat_tests, common_steps)
 
     -- neither its kind nor its state changes
     kept : y.kind ≡ (transaction w u).kind → y.state ≡ (transaction w u).state → Still request (answer, after)
-    kept kind state = changed
-        (λ e. kind ∙ ap (λ (i : ℕ). (get_or w.transactions i (new_transaction Search)).kind) e ∙ search)
-        (λ e o. inl (state ∙ ap (λ (i : ℕ). (get_or w.transactions i (new_transaction Search)).state) e ∙ o))
+    kept kind state = grind (arith, nat_tests, common_steps)
 
   one_number : (u : ℕ) → is_begun w u ≡ true → u - 1 ≡ t - 1 → u ≡ t
   one_number u b e = let x = (begun_place w u b).0 in let y = (begun_place w t begun).0 in omega arith
 
   -- a search changes by no offer, cancel or decision of an update
   at_same : (u : ℕ) → u - 1 ≡ t - 1 → transaction w u ≡ transaction w t
-  at_same u e = ap (λ (i : ℕ). get_or w.transactions i (new_transaction Search)) e
+  at_same u e = ap (λ (i : ℕ). slice_index_or w.transactions i (new_transaction Search)) e
 
   read_by_still : (u k p : ℕ) (kind : Kind) → Still (read u k p) (read_by w u k p (transaction w u) kind)
   read_by_still u k p Search = kept (read u k p) (Found _ _) _ u _ refl refl refl
@@ -110,7 +70,7 @@ module _ (w : World) (t : ℕ) (begun : is_begun w t ≡ true) (search : (transa
 
   read_open_still : (u k p : ℕ) (own : Option ℕ) → Still (read u k p) (read_open w u k p (transaction w u) own)
   read_open_still u k p (Some value) = record { begun_after = begun; search_after = search; open_after = λ e. inl e }
-  read_open_still u k p None = checked (leb (slot (transaction w u).clock p) (node w p).frontier) NotYet _ (λ a. read_by_still u k p (transaction w u).kind)
+  read_open_still u k p None = checked (nat_le (slot (transaction w u).clock p) (node w p).frontier) NotYet _ (λ a. read_by_still u k p (transaction w u).kind)
 
   yes_still : (u p : ℕ) (store : Meaning) (writes : Bool) → Still (prepare u p) (yes w u p (transaction w u) store writes)
   yes_still u p store true = kept (prepare u p) (Yes _) _ u _ refl refl refl
@@ -146,35 +106,20 @@ module _ (w : World) (t : ℕ) (begun : is_begun w t ≡ true) (search : (transa
   apply_still p (Some u) = checked (marked (transaction w u).learned p) NotLearned _ (λ a. kept (apply p) (Applied u) _ u _ refl refl refl)
 
   -- only updates are offered and cancelled
-  gone : (request : Request) (answer : Answer) (after : World) (u : ℕ) (y : Transaction) (b : Bool) → after.transactions ≡ set w.transactions (u - 1) y →
+  gone : (request : Request) (answer : Answer) (after : World) (u : ℕ) (y : Transaction) (b : Bool) → after.transactions ≡ slice_set w.transactions (u - 1) y →
       (is_update (transaction w u).kind && b) ≡ true → Still request (answer, after)
-  gone request answer after u y b is e = changed request answer after u y is
-      (λ s. absurd (no_update (transaction w u).kind b (ap (λ (z : Transaction). z.kind) (at_same u s) ∙ search) e))
-      (λ s o. absurd (no_update (transaction w u).kind b (ap (λ (z : Transaction). z.kind) (at_same u s) ∙ search) e))
-
-  one_more : (request : Request) (answer : Answer) (kind : Kind) → Still request (answer, with_one_more w kind)
-  one_more request answer kind =
-      let a = begun_place w t begun in
-      let l : length (with_one_more w kind).transactions ≡ length w.transactions + 1 = length-append w.transactions (new_transaction kind ∷ []) in
-      let x : transaction (with_one_more w kind) t ≡ transaction w t = get_or_append_left w.transactions (new_transaction kind ∷ []) (new_transaction Search) (t - 1) a.1 in
-      record {
-        begun_after = begun_from (with_one_more w kind) t a.0 (let b = a.2 in omega arith);
-        search_after = ap (λ (z : Transaction). z.kind) x ∙ search;
-        open_after = λ o. inl (ap (λ (z : Transaction). z.state) x ∙ o);
-      }
+  gone request answer after u y b is e = grind (arith, nat_tests, common_steps)
 
   begin_still : (mode : ℕ) → Still (begin mode) (begin_mode w mode)
-  begin_still zero = checked (ltb (length w.transactions) 255) NumbersUsedUp _ (λ a. one_more (begin zero) (Begun _) Search)
-  begin_still (suc zero) = checked (ltb (length w.transactions) 255) NumbersUsedUp _ (λ a. one_more (begin (suc zero)) (Begun _) Update)
-  begin_still (suc (suc mode)) = refused (begin (suc (suc mode))) BadRecord
+  begin_still mode = grind (arith, nat_tests, common_steps)
 
   still : (free : FreeRule) (request : Request) → Still request (step free w request)
   still free (make nodes keys placement) = refused (make nodes keys placement) MakeOutOfOrder
   still free (begin mode) = begin_still mode
   still free (read u k p) =
-      checked (is_begun w u) NoSuchTransaction _ (λ a. checked (is_node w p) NoSuchNode _ (λ b. checked (is_key w k) NoSuchKey _ (λ c. checked (holds w p k) KeyNotHeld _ (λ d. checked (may Read (transaction w u)) WrongState _ (λ e. read_open_still u k p (get_or (transaction w u).written k None))))))
+      checked (is_begun w u) NoSuchTransaction _ (λ a. checked (is_node w p) NoSuchNode _ (λ b. checked (is_key w k) NoSuchKey _ (λ c. checked (holds w p k) KeyNotHeld _ (λ d. checked (may Read (transaction w u)) WrongState _ (λ e. read_open_still u k p (slice_index_or (transaction w u).written k None))))))
   still free (write u k value) =
-      checked (is_begun w u) NoSuchTransaction _ (λ a. checked (is_key w k) NoSuchKey _ (λ b. checked (may Write (transaction w u)) WrongState _ (λ c. checked (wrote (transaction w u) k || ltb (how_many (transaction w u).written) 8) TooManyKeysWritten _ (λ d. kept (write u k value) Done _ u _ refl refl refl))))
+      checked (is_begun w u) NoSuchTransaction _ (λ a. checked (is_key w k) NoSuchKey _ (λ b. checked (may Write (transaction w u)) WrongState _ (λ c. checked (wrote (transaction w u) k || nat_lt (how_many (transaction w u).written) 8) TooManyKeysWritten _ (λ d. kept (write u k value) Done _ u _ refl refl refl))))
   still free (offer u) = checked (is_begun w u) NoSuchTransaction _ (λ a. checked (may Offer (transaction w u)) WrongState _ (λ b. gone (offer u) (Polled _) _ u _ _ refl b))
   still free (prepare u p) =
       checked (is_begun w u) NoSuchTransaction _ (λ a. checked (is_node w p) NoSuchNode _ (λ b. checked (may Prepare (transaction w u)) WrongState _ (λ c. checked (bit (transaction w u).polled p) NotPolled _ (λ d. checked (not (marked (transaction w u).voted p)) AlreadyDone _ (λ e. checked (not (busy w u p)) Busy _ (λ f. vote_still free u p (overtaken_key w (transaction w u) p)))))))
@@ -191,26 +136,10 @@ record Starts (t : ℕ) (o : Outcome) : Type 0 where
   starts : o.0 ≡ Begun t → (is_begun o.1 t ≡ true) × ((transaction o.1 t).kind ≡ Search) × ((transaction o.1 t).state ≡ Open)
 
 begin_starts : (w : World) (t : ℕ) → Starts t (begin_mode w zero)
-begin_starts w t = go (ltb (length w.transactions) 255)
+begin_starts w t = go (nat_lt (length w.transactions) 255)
   where
-    new : (u : ℕ) → u ≡ length w.transactions + 1 → (is_begun (with_one_more w Search) u ≡ true) × (transaction (with_one_more w Search) u ≡ new_transaction Search)
-    new u e =
-        let l : length (with_one_more w Search).transactions ≡ length w.transactions + 1 = length-append w.transactions (new_transaction Search ∷ []) in
-        let i : u - 1 ≡ length w.transactions = omega arith in (
-          begun_from (with_one_more w Search) u (omega arith) (omega arith),
-          ap (λ (j : ℕ). get_or (w.transactions ++ new_transaction Search ∷ []) j (new_transaction Search)) i
-              ∙ get_or-append_right w.transactions (new_transaction Search ∷ []) (length w.transactions) (length w.transactions) (new_transaction Search) refl (omega arith)
-              ∙ ap (λ (j : ℕ). get_or (new_transaction Search ∷ []) j (new_transaction Search)) (minus_self (length w.transactions)),
-        )
-      where
-        minus_self : (m : ℕ) → m - m ≡ 0
-        minus_self m = omega arith
-
-    go : (b : Bool) → Starts t (check b w NumbersUsedUp (Begun (length w.transactions + 1), with_one_more w Search))
-    go true = record {
-      starts = λ e. let u : t ≡ length w.transactions + 1 = cc in let f = new t u in (f.0, ap (λ (z : Transaction). z.kind) f.1, ap (λ (z : Transaction). z.state) f.1);
-    }
-    go false = record { starts = λ e. let z : ◌≡◌ {A = ℕ} 0 1 = cc in absurd (omega arith) }
+    go : (b : Bool) → Starts t (check b w NumbersUsedUp (Begun (length w.transactions + 1), begun_world w Search))
+    go b = grind (arith, nat_tests, common_steps)
 
 -- what the calls tell of every search
 pub record Searched (calls : Transcript) (w : World) (t : ℕ) : Type 0 where
@@ -232,8 +161,7 @@ one_call free calls w request all t (inr before) =
   where
     go : {A : Type 0} → ((transaction w t).state ≡ Open) ⊎ A → ((transaction w t).state ≡ Open → ((transaction (step free w request).1 t).state ≡ Open) ⊎ ((request ≡ finish t) × ((step free w request).0 ≡ Done))) →
         ((transaction (step free w request).1 t).state ≡ Open) ⊎ (((request ≡ finish t) × ((step free w request).0 ≡ Done)) ⊎ A)
-    go (inl o) f = ⊎_elim (λ (e : (transaction (step free w request).1 t).state ≡ Open). inl e) (λ (e : (request ≡ finish t) × ((step free w request).0 ≡ Done)). inr (inl e)) (f o)
-    go (inr a) f = inr (inr a)
+    go e1 e2 = grind (arith, nat_tests)
 
 pub searches_on : (free : FreeRule) (calls : Transcript) (w : World) (requests : List Request) → ((t : ℕ) → IsSearch calls t → Searched calls w t) →
     (t : ℕ) → IsSearch (transcript_on free w requests calls) t → Searched (transcript_on free w requests calls) (world_after free w requests) t

@@ -1,9 +1,10 @@
 -- A world that has just been made.
-use Rattle.std.proofs.Common.{◌≡◌, ℕ, zero, suc, ◌+◌, ◌/◌, ◌%◌, ◌^◌, ◌<◌, ◌≤◌, true, false, ◌&&◌, eqb, ltb, leb, List, [], ◌∷◌, length, get_or, refl, ap, ◌∙◌, subst, ⊎_elim, arith}
+use Rattle.std.proofs.Common.{◌≡◌, ℕ, zero, suc, ◌+◌, ◌/◌, ◌%◌, ◌^◌, ◌<◌, ◌≤◌, true, false, ◌&&◌, nat_lt, List, [], ◌∷◌, length, slice_index_or, refl, ap, ◌∙◌, subst, ⊎_elim, arith}
 use Rattle.std.proofs.lemmas.List.{length-replicate, get_or_past}
 use Rattle.std.proofs.lemmas.Nat.{pow_pos, pow_below, shr_below, le-div, leading_top}
-use Rattle.std.proofs.lemmas.Bool.{and_parts, ltb-true, leb-true, cases_lt, cases_eq, both_ways, eq-eqb}
+use Rattle.std.proofs.lemmas.Bool.{and_parts, ltb-true, cases_lt, cases_eq, both_ways, eq-eqb}
 use Rattle.std.proofs.lemmas.Bool.Decides.{nat_tests}
+use Rattle.std.proofs.lemmas.Grind.{common_steps}
 use Rattle.history.specs.Protocol as protocol
 use Rattle.rules.specs.declared.records.Node.{Node}
 use Rattle.rules.specs.World.{is_begun, node, new_node, bit}
@@ -11,17 +12,17 @@ use Rattle.rules.specs.Steps.{all_placed, can_make, made_world}
 use Rattle.rules.proofs.View.{view, node_of}
 use Rattle.rules.proofs.Invariant.{Invariant}
 use Rattle.rules.proofs.Views.{same_state, begun_place}
-use Rattle.rules.proofs.Begins.{getD_blank}
+use Rattle.rules.proofs.Begins.{get_or-blank}
 use Rattle.rules.proofs.States.{bit_zero}
 
 -- ── Bytes of the placement ──
 
-placed_at : (n : ℕ) (placement : List ℕ) (k : ℕ) → all_placed n placement ≡ true → k < length placement → (0 < get_or placement k 0) × (get_or placement k 0 < 2 ^ n)
+placed_at : (n : ℕ) (placement : List ℕ) (k : ℕ) → all_placed n placement ≡ true → k < length placement → (0 < slice_index_or placement k 0) × (slice_index_or placement k 0 < 2 ^ n)
 placed_at n [] k e l = absurd (omega arith)
 placed_at n (byte ∷ bytes) zero e l =
-    let parts = and_parts (ltb 0 byte) (ltb byte (2 ^ n)) (and_parts (ltb 0 byte && ltb byte (2 ^ n)) (all_placed n bytes) e).0 in
+    let parts = and_parts (nat_lt 0 byte) (nat_lt byte (2 ^ n)) (and_parts (nat_lt 0 byte && nat_lt byte (2 ^ n)) (all_placed n bytes) e).0 in
     (ltb-true 0 byte parts.0, ltb-true byte (2 ^ n) parts.1)
-placed_at n (byte ∷ bytes) (suc k) e l = placed_at n bytes k (and_parts (ltb 0 byte && ltb byte (2 ^ n)) (all_placed n bytes) e).1 (omega arith)
+placed_at n (byte ∷ bytes) (suc k) e l = placed_at n bytes k (and_parts (nat_lt 0 byte && nat_lt byte (2 ^ n)) (all_placed n bytes) e).1 (omega arith)
 
 -- A byte that is not 0 has a bit that is set.
 some_bit : (n byte : ℕ) → 0 < byte → byte < 2 ^ n → (p : ℕ) × (bit byte p ≡ true)
@@ -46,37 +47,30 @@ bit_within n byte p below e =
 
 module _ (n : ℕ) (placement : List ℕ) (made : can_make n (length placement) placement ≡ true) where
   counts : (0 < n) × (n ≤ 8) × (length placement ≤ 64)
-  counts =
-      let parts = and_parts (leb 1 n && leb n 8) ((leb 1 (length placement) && leb (length placement) 64) && (eqb (length placement) (length placement) && all_placed n placement)) made in
-      let nodes = and_parts (leb 1 n) (leb n 8) parts.0 in
-      let keys = and_parts (leb 1 (length placement)) (leb (length placement) 64) (and_parts (leb 1 (length placement) && leb (length placement) 64) (eqb (length placement) (length placement) && all_placed n placement) parts.1).0 in
-      (leb-true 1 n nodes.0, leb-true n 8 nodes.1, leb-true (length placement) 64 keys.1)
+  counts = grind (arith, nat_tests)
 
   all_there : all_placed n placement ≡ true
-  all_there =
-      let parts = and_parts (leb 1 n && leb n 8) ((leb 1 (length placement) && leb (length placement) 64) && (eqb (length placement) (length placement) && all_placed n placement)) made in
-      let rest = and_parts (leb 1 (length placement) && leb (length placement) 64) (eqb (length placement) (length placement) && all_placed n placement) parts.1 in
-      (and_parts (eqb (length placement) (length placement)) (all_placed n placement) rest.1).1
+  all_there = grind (arith, nat_tests)
 
-  held : (k : ℕ) → k < length placement → (p : ℕ) × (bit (get_or placement k 0) p ≡ true)
-  held k l = let here = placed_at n placement k all_there l in some_bit n (get_or placement k 0) here.0 here.1
+  held : (k : ℕ) → k < length placement → (p : ℕ) × (bit (slice_index_or placement k 0) p ≡ true)
+  held k l = let here = placed_at n placement k all_there l in some_bit n (slice_index_or placement k 0) here.0 here.1
 
-  holder : (p k : ℕ) → bit (get_or placement k 0) p ≡ true → (p < n) × (k < length placement)
+  holder : (p k : ℕ) → bit (slice_index_or placement k 0) p ≡ true → (p < n) × (k < length placement)
   holder p k e =
-      ⊎_elim (λ (l : k < length placement). (bit_within n (get_or placement k 0) p (placed_at n placement k all_there l).1 e, l))
+      ⊎_elim (λ (l : k < length placement). (bit_within n (slice_index_or placement k 0) p (placed_at n placement k all_there l).1 e, l))
       (λ (l : length placement ≤ k). absurd (both_ways (bit 0 p) (bit_zero p) (rw (get_or_past placement k 0 l) at e)))
       (cases_lt k (length placement))
 
   made_node : (p : ℕ) → node (made_world n placement) p ≡ new_node
-  made_node p = getD_blank n p new_node
+  made_node p = get_or-blank n p new_node
 
   none_begun : (t : ℕ) → is_begun (made_world n placement) t ≡ true → ⊥
   none_begun t b = omega (arith, (begun_place (made_world n placement) t b).1)
 
   made_keeps : Invariant (made_world n placement)
   made_keeps = record {
-    some_nodes = omega (arith, length-replicate n new_node, counts.0);
-    few_nodes = omega (arith, length-replicate n new_node, counts.1);
+    some_nodes = grind (arith, nat_tests, common_steps);
+    few_nodes = grind (arith, nat_tests, common_steps);
     few_keys = counts.2;
     few_transactions = omega arith;
     has_holder = held;
@@ -100,7 +94,7 @@ module _ (n : ℕ) (placement : List ℕ) (made : can_make n (length placement) 
   made_view =
       same_state (view (made_world n placement)) protocol.fresh
       (λ t. rw (unbegun t) refl)
-      (λ p. ap (λ (x : Node). node_of x) (made_node p) ∙ (λ i. record { counter = 0; frontier = 0; seen = λ q. getD_blank 8 q 0 i }))
+      (λ p. ap (λ (x : Node). node_of x) (made_node p) ∙ (λ i. record { counter = 0; frontier = 0; seen = λ q. get_or-blank 8 q 0 i }))
       (λ t p. rw (unbegun t) refl)
       (λ p k. refl)
 

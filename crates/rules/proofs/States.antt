@@ -1,64 +1,49 @@
 -- The tests of kinds and states, and of the numbers below a bound.
-use Rattle.std.proofs.Common.{◌≡◌, ℕ, zero, suc, ◌/◌, ◌^◌, ◌<◌, Bool, true, false, ◌&&◌, refl, ⊎_elim, arith}
+use Rattle.std.proofs.Common.{◌≡◌, ℕ, ◌/◌, ◌^◌, ◌<◌, Bool, true, false, ◌&&◌, refl, arith, Decides}
 use Rattle.std.proofs.lemmas.Nat.{shr_le}
-use Rattle.std.proofs.lemmas.Bool.{and_parts, or_cases, or_left, or_right, or_parts, cases_eq, both_ways}
+use Rattle.std.proofs.lemmas.Bool.{and_parts, both_ways, false_from_ne_true}
+use Rattle.std.proofs.lemmas.Bool.Decides.{Decides-below_or, Decides-below_and, nat_tests}
 use Rattle.rules.specs.declared.records.Kind.{Kind}
 use Rattle.rules.specs.declared.records.Kind.TheVariants.{Search, Update}
 use Rattle.rules.specs.declared.records.State.{State}
-use Rattle.rules.specs.declared.records.State.TheVariants.{Open, Offered, Committed, Aborted, Finished}
+use Rattle.rules.specs.declared.records.State.TheVariants.{Open, Offered}
 use Rattle.rules.specs.declared.records.Transaction.{Transaction}
 use Rattle.rules.specs.World.{World, holds, bit, some_below, all_below, wrote, is_write_node}
 use Rattle.rules.specs.Changes.{is_open, is_offered, is_update, is_search}
 
 pub open_is : (state : State) → is_open state ≡ true → state ≡ Open
-open_is Open e = refl
-open_is Offered e = absurd (both_ways false refl e)
-open_is Committed e = absurd (both_ways false refl e)
-open_is Aborted e = absurd (both_ways false refl e)
-open_is Finished e = absurd (both_ways false refl e)
+open_is state e1 = grind (arith, nat_tests)
 
 pub offered_is : (state : State) → is_offered state ≡ true → state ≡ Offered
-offered_is Open e = absurd (both_ways false refl e)
-offered_is Offered e = refl
-offered_is Committed e = absurd (both_ways false refl e)
-offered_is Aborted e = absurd (both_ways false refl e)
-offered_is Finished e = absurd (both_ways false refl e)
+offered_is state e1 = grind (arith, nat_tests)
 
 pub update_is : (kind : Kind) → is_update kind ≡ true → kind ≡ Update
-update_is Search e = absurd (both_ways false refl e)
-update_is Update e = refl
+update_is kind e1 = grind (arith, nat_tests)
 
 pub search_is : (kind : Kind) → is_search kind ≡ true → kind ≡ Search
-search_is Search e = refl
-search_is Update e = absurd (both_ways false refl e)
+search_is kind e1 = grind (arith, nat_tests)
 
 -- ── Below a bound ──
 
+some_decides : (n : ℕ) (test : ℕ → Bool) → Decides (some_below n test) ((k : ℕ) × (k < n) × (test k ≡ true))
+some_decides n test = Decides-below_or test (λ k. test k ≡ true) (λ m. some_below m test) (λ k. (λ e. e, λ e. e)) refl (λ _. refl) n
+
 pub some_has : (n : ℕ) (test : ℕ → Bool) → some_below n test ≡ true → (k : ℕ) × (k < n) × (test k ≡ true)
-some_has zero test e = absurd (both_ways false refl e)
-some_has (suc n) test e =
-    ⊎_elim (λ (h : test n ≡ true). (n, omega arith, h)) (λ (h : some_below n test ≡ true). ((some_has n test h).0, omega (arith, (some_has n test h).1), (some_has n test h).2)) (or_cases (test n) (some_below n test) e)
+some_has n test = (some_decides n test).0
 
 pub some_from : (n : ℕ) (test : ℕ → Bool) (k : ℕ) → k < n → test k ≡ true → some_below n test ≡ true
-some_from zero test k l e = absurd (omega arith)
-some_from (suc n) test k l e =
-    ⊎_elim (λ (h : n ≡ k). or_left (test n) (some_below n test) (rw h e)) (λ (h : n ≡ k → ⊥). or_right (test n) (some_below n test) (some_from n test k (omega arith) e)) (cases_eq n k)
+some_from n test k l e = (some_decides n test).1 (k, l, e)
 
 pub none_has : (n : ℕ) (test : ℕ → Bool) (k : ℕ) → some_below n test ≡ false → k < n → test k ≡ true → ⊥
 none_has n test k e l h = both_ways (some_below n test) e (some_from n test k l h)
 
 pub all_has : (n : ℕ) (test : ℕ → Bool) (k : ℕ) → all_below n test ≡ true → k < n → test k ≡ true
-all_has zero test k e l = absurd (omega arith)
-all_has (suc n) test k e l =
-    ⊎_elim (λ (h : n ≡ k). rw h at (and_parts (test n) (all_below n test) e).0) (λ (h : n ≡ k → ⊥). all_has n test k (and_parts (test n) (all_below n test) e).1 (omega arith)) (cases_eq n k)
+all_has n test k e l = (Decides-below_and test (λ j. test j ≡ true) (λ m. all_below m test) (λ j. (λ h. h, λ h. h)) refl (λ _. refl) n).0 e k l
 
 -- A test that fails below a bound fails there for whatever implies it.
 pub some_less : (n : ℕ) (test more : ℕ → Bool) → ((k : ℕ) → test k ≡ true → more k ≡ true) → some_below n more ≡ false → some_below n test ≡ false
-some_less zero test more h e = refl
-some_less (suc n) test more h e =
-    let parts = or_parts (more n) (some_below n more) e in
-    let rest : some_below n test ≡ false = some_less n test more h parts.1 in
-    grind (arith, h n)
+some_less n test more h e =
+    false_from_ne_true (some_below n test) (λ some. let found = some_has n test some in none_has n more found.0 e found.1 (h found.0 found.2))
 
 -- ── Write nodes ──
 

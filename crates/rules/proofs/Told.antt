@@ -1,5 +1,6 @@
 -- What a history tells of each transaction is what a transcript that matches it tells.
-use Rattle.std.proofs.Common.{◌≡◌, ℕ, List, sym, refl, ap, ◌∙◌}
+use Rattle.std.proofs.Common.{◌≡◌, ℕ, List, sym, refl, ap, ◌∙◌, arith}
+use Rattle.std.proofs.lemmas.Bool.Decides.{nat_tests}
 use mathlib.Core.Path.{fun_ext}
 use Rattle.history.specs.Table.{Version, Operation}
 use Rattle.history.specs.Protocol.{Event}
@@ -10,40 +11,16 @@ use Rattle.rules.specs.Transcript.{Transcript, Told}
 use Rattle.rules.proofs.View.{told_by, Matches, none, skip, event}
 
 same_operation : (m : Mark) (t : ℕ) (l : List Operation) → history.add_operation m t l ≡ transcript.add_operation (told_by m) t l
-same_operation (began u) t l = refl
-same_operation (got_own u k a) t l = refl
-same_operation (got_from u k p a) t l = refl
-same_operation (put_value u k v) t l = refl
-same_operation (decided_commit u) t l = refl
-same_operation (applied_there u p) t l = refl
-same_operation nothing t l = refl
+same_operation m t l = grind (arith, nat_tests)
 
 same_answer : (m : Mark) (t : ℕ) (l : List Version) → history.add_answer m t l ≡ transcript.add_answer (told_by m) t l
-same_answer (began u) t l = refl
-same_answer (got_own u k a) t l = refl
-same_answer (got_from u k p a) t l = refl
-same_answer (put_value u k v) t l = refl
-same_answer (decided_commit u) t l = refl
-same_answer (applied_there u p) t l = refl
-same_answer nothing t l = refl
+same_answer m t l = grind (arith, nat_tests)
 
 same_decision : (m : Mark) (l : List ℕ) → history.add_decision m l ≡ transcript.add_decision (told_by m) l
-same_decision (began u) l = refl
-same_decision (got_own u k a) l = refl
-same_decision (got_from u k p a) l = refl
-same_decision (put_value u k v) l = refl
-same_decision (decided_commit u) l = refl
-same_decision (applied_there u p) l = refl
-same_decision nothing l = refl
+same_decision m l = grind (arith, nat_tests)
 
 same_applied : (m : Mark) (p : ℕ) (l : List ℕ) → history.add_applied m p l ≡ transcript.add_applied (told_by m) p l
-same_applied (began u) p l = refl
-same_applied (got_own u k a) p l = refl
-same_applied (got_from u k q a) p l = refl
-same_applied (put_value u k v) p l = refl
-same_applied (decided_commit u) p l = refl
-same_applied (applied_there u q) p l = refl
-same_applied nothing p l = refl
+same_applied m p l = grind (arith, nat_tests)
 
 script_at : {h : List Event} {calls : Transcript} → Matches h calls → (t : ℕ) → history.script h t ≡ transcript.script calls t
 script_at none t = refl

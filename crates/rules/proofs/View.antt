@@ -1,5 +1,5 @@
 -- The world as the protocol of histories sees it: functions of transaction, node and key.
-use Rattle.std.proofs.Common.{◌≡◌, ℕ, cond, List, [], ◌∷◌, map, get_or, None}
+use Rattle.std.proofs.Common.{◌≡◌, ℕ, cond, List, [], ◌∷◌, map, slice_index_or, None}
 use Rattle.calls.specs.declared.answer.Answer.{Answer}
 use Rattle.calls.specs.Requests.{Request}
 use Rattle.clock.specs.Clocks.{slot, marked}
@@ -20,7 +20,7 @@ use Rattle.rules.specs.Transcript.{Transcript, Told, told}
 
 -- The placement, as the protocol has it. A number that is no key has no holder.
 abbrev pub placed : List ℕ → Placement
-placed placement p k = bit (get_or placement k 0) p
+placed placement p k = bit (slice_index_or placement k 0) p
 
 abbrev pub kind_of : Kind → protocol.Kind
 kind_of Search = protocol.Search
@@ -37,7 +37,7 @@ abbrev pub transaction_of : Transaction → protocol.Transaction
 transaction_of x = record {
   kind = kind_of x.kind;
   status = status_of x.state;
-  reading = record { clock = λ q. slot x.clock q; read_at = λ q. marked x.read q; noted = λ k. noted x k; noted_writer = λ k. value_or (get_or x.noted k None) 0 };
+  reading = record { clock = λ q. slot x.clock q; read_at = λ q. marked x.read q; noted = λ k. noted x k; noted_writer = λ k. value_or (slice_index_or x.noted k None) 0 };
   writing = record { wrote = λ k. wrote x k; value = λ k. written_value x k };
   outcome = record { refused = x.refused; vote_clock = λ q. slot x.votes q; stamp = x.stamp; commit_clock = λ q. slot x.commit q };
 }

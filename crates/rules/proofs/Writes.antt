@@ -1,13 +1,13 @@
 -- Writing, offering, cancelling and finishing.
-use Rattle.std.proofs.Common.{◌≡◌, ℕ, zero, suc, ◌+◌, ◌/◌, ◌%◌, ◌^◌, ◌<◌, ◌≤◌, max, Bool, true, false, cond, ◌&&◌, ◌||◌, eqb, ltb, ◌⊎◌, List, length, get_or, set, Some, None, fold, Option, sym, refl, ap, ◌∙◌, subst, inl, inr, ⊎_elim, arith}
+use Rattle.std.proofs.Common.{◌≡◌, ℕ, zero, suc, ◌+◌, ◌/◌, ◌%◌, ◌^◌, ◌<◌, ◌≤◌, max, Bool, true, false, cond, ◌&&◌, ◌||◌, nat_lt, ◌⊎◌, List, length, slice_index_or, slice_set, Some, None, fold, Option, sym, refl, ap, ◌∙◌, inl, inr, ⊎_elim, arith, ◌==◌}
 use lib.Bits.{bit_or, or_step}
 use Rattle.std.specs.List.{range_with_len}
-use Rattle.std.proofs.lemmas.List.{length-set}
 use Rattle.std.proofs.lemmas.Nat.{or_shr}
-use Rattle.std.proofs.lemmas.Bool.{and_parts, or_cases, or_left, or_right, ltb-true, cases_Bool, cases_eq, ne_eqb, both_ways}
+use Rattle.std.proofs.lemmas.Bool.{and_parts, or_cases, or_left, or_right, ltb-true, cases_Bool, cases_eq, both_ways}
 use Rattle.std.proofs.lemmas.Bool.Decides.{nat_tests}
+use Rattle.std.proofs.lemmas.Grind.{common_steps}
 use Rattle.calls.specs.declared.answer.Answer.TheVariants.{Done, Polled}
-use Rattle.calls.specs.declared.refusal.Refusal.TheVariants.{NoSuchTransaction, NoSuchKey, WrongState, TooManyKeysWritten, MakeOutOfOrder}
+use Rattle.calls.specs.declared.refusal.Refusal.TheVariants.{NoSuchTransaction, NoSuchKey, WrongState, TooManyKeysWritten}
 use Rattle.calls.specs.Requests.{make, write, offer, cancel, finish}
 use Rattle.store.specs.Model.{FreeRule}
 use Rattle.history.specs.Protocol as protocol
@@ -17,45 +17,25 @@ use Rattle.rules.specs.declared.records.State.{State}
 use Rattle.rules.specs.declared.records.State.TheVariants.{Open, Offered, Aborted, Finished}
 use Rattle.rules.specs.declared.records.Event.TheVariants.{Write, Offer, Cancel, Finish}
 use Rattle.rules.specs.declared.records.Transaction.{Transaction}
-use Rattle.rules.specs.World.{World, is_begun, is_key, holds, transaction, with_transaction, bit, is_there, value_or, noted, wrote, how_many, is_write_node}
+use Rattle.rules.specs.World.{World, is_begun, is_key, holds, transaction, with_transaction, bit, is_there, noted, wrote, how_many, is_write_node}
 use Rattle.rules.specs.Changes.{may, is_open, is_offered, is_update, is_search, becomes, has_written, is_now_offered}
 use Rattle.rules.specs.Deciding.{polled_byte, nodes_of}
 use Rattle.rules.proofs.View.{view, status_of, kind_of, transaction_of}
 use Rattle.rules.proofs.Invariant.{Invariant, GoodStep}
-use Rattle.rules.proofs.Checks.{GoodOutcome, good_step, refused, checked}
-use Rattle.rules.proofs.Views.{view_change, view_begun, get_d_set, engaged_writer}
+use Rattle.rules.proofs.Checks.{GoodOutcome, good_step, checked}
+use Rattle.rules.proofs.Views.{view_change, view_begun, engaged_writer}
 use Rattle.rules.proofs.Keeping.{Fits, fits, keeps_transaction}
 use Rattle.rules.proofs.States.{open_is, offered_is, update_is, search_is, write_node_less, bit_zero}
 
 pub make_good : (free : FreeRule) (w : World) (n k : ℕ) (placement : List ℕ) → Invariant w → GoodStep free w (make n k placement)
-make_good free w n k placement now = good_step free w (make n k placement) (refused w (make n k placement) MakeOutOfOrder now)
+make_good free w n k placement now = grind (arith, nat_tests)
 
 -- ── A change of state ──
 
 -- A transaction that is decided or finished.
 fits_over : (w : World) (x : Transaction) (state : State) → Fits w x → is_open state ≡ false → is_offered state ≡ false → Fits w (becomes state x)
 unfolding is_write_node
-fits_over w x state f not_open not_offered = record {
-  shaped = record {
-    clock = f.shaped.clock;
-    read = f.shaped.read;
-    noted = f.shaped.noted;
-    written = f.shaped.written;
-    voted = f.shaped.voted;
-    engaged = f.shaped.engaged;
-    numbers = f.shaped.numbers;
-    votes = f.shaped.votes;
-    learned = f.shaped.learned;
-    applied = f.shaped.applied;
-    commit = f.shaped.commit;
-  };
-  keys_only = f.keys_only;
-  polled_sound = f.polled_sound;
-  polled_all = λ p k e. absurd (both_ways (is_offered state) not_offered (ap is_offered e));
-  numbers_there = f.numbers_there;
-  open_idle = λ p e. absurd (both_ways (is_open state) not_open (ap is_open e));
-  engaged_voted = f.engaged_voted;
-}
+fits_over w x state f not_open not_offered = grind (arith, nat_tests)
 
 becomes_view : (w : World) (t : ℕ) (state : State) → is_begun w t ≡ true →
     view (with_transaction w t (becomes state (transaction w t))) ≡ protocol.change_transaction t (protocol.becomes (status_of state)) (view w)
@@ -114,70 +94,33 @@ finish_good free w t now =
 
 -- ── A write ──
 
-is_there_cond : {X : Type 0} (b : Bool) (value : X) (o : Option X) → is_there (cond b (Some value) o) ≡ cond b true (is_there o)
-is_there_cond true value o = refl
-is_there_cond false value o = refl
-
-value_or_cond : {X : Type 0} (b : Bool) (value : X) (o : Option X) (d : X) → value_or (cond b (Some value) o) d ≡ cond b value (value_or o d)
-value_or_cond true value o d = refl
-value_or_cond false value o d = refl
-
 -- A row of options with one place filled.
-pub there_set : (row : List (Option ℕ)) (k j value : ℕ) → k < length row → is_there (get_or (set row k (Some value)) j None) ≡ cond (eqb k j) true (is_there (get_or row j None))
-there_set row k j value l = ap (λ (o : Option ℕ). is_there o) (get_d_set row k j (Some value) None l) ∙ is_there_cond (eqb k j) value (get_or row j None)
-
-pub value_set : (row : List (Option ℕ)) (k j value : ℕ) → k < length row → value_or (get_or (set row k (Some value)) j None) 0 ≡ cond (eqb k j) value (value_or (get_or row j None) 0)
-value_set row k j value l = ap (λ (o : Option ℕ). value_or o 0) (get_d_set row k j (Some value) None l) ∙ value_or_cond (eqb k j) value (get_or row j None) 0
+pub there_set : (row : List (Option ℕ)) (k j value : ℕ) → k < length row → is_there (slice_index_or (slice_set row k (Some value)) j None) ≡ cond (k == j) true (is_there (slice_index_or row j None))
+there_set row k j value l = grind (arith, nat_tests, common_steps)
 
 module _ (w : World) (x : Transaction) (k value : ℕ) (key : k < length w.placement) (room : k < length x.written) (open_now : x.state ≡ Open) (fit : Fits w x) where
-  wrote_after : (j : ℕ) → wrote (has_written k value x) j ≡ cond (eqb k j) true (wrote x j)
+  wrote_after : (j : ℕ) → wrote (has_written k value x) j ≡ cond (k == j) true (wrote x j)
   wrote_after j = there_set x.written k j value room
 
   wrote_still : (j : ℕ) → wrote x j ≡ true → wrote (has_written k value x) j ≡ true
   wrote_still j e = rw (wrote_after j, e) (grind arith)
 
-  touched_still : (j : ℕ) → (noted x j || wrote x j) ≡ true → (noted x j || wrote (has_written k value x) j) ≡ true
-  touched_still j e =
-      ⊎_elim (λ (h : noted x j ≡ true). or_left (noted x j) (wrote (has_written k value x) j) h) (λ (h : wrote x j ≡ true). or_right (noted x j) (wrote (has_written k value x) j) (wrote_still j h))
-      (or_cases (noted x j) (wrote x j) e)
-
   touched_key : (j : ℕ) → (noted x j || wrote (has_written k value x) j) ≡ true → j < length w.placement
-  touched_key j e =
-      let a = fit.keys_only j in
-      let b = wrote_after j in
-      ⊎_elim (λ (h : k ≡ j). subst (λ (i : ℕ). i < length w.placement) h key) (λ (h : k ≡ j → ⊥). fit.keys_only j (rw (b, ne_eqb k j h) at e)) (cases_eq k j)
+  touched_key j e = grind (arith, nat_tests, common_steps)
 
   fits_written : Fits w (has_written k value x)
   fits_written = record {
-    shaped = record {
-      clock = fit.shaped.clock;
-      read = fit.shaped.read;
-      noted = fit.shaped.noted;
-      written = length-set x.written k (Some value) ∙ fit.shaped.written;
-      voted = fit.shaped.voted;
-      engaged = fit.shaped.engaged;
-      numbers = fit.shaped.numbers;
-      votes = fit.shaped.votes;
-      learned = fit.shaped.learned;
-      applied = fit.shaped.applied;
-      commit = fit.shaped.commit;
-    };
+    shaped = grind (arith, nat_tests, common_steps);
     keys_only = touched_key;
-    polled_sound = λ p e. let found = fit.polled_sound p e in (found.0, touched_still found.0 found.1, found.2);
-    polled_all = λ p j e. absurd (both_ways false refl (ap is_offered (sym open_now ∙ e)));
+    polled_sound = λ p e. grind (arith, nat_tests, common_steps);
+    polled_all = λ p j e. grind (arith, nat_tests, common_steps);
     numbers_there = λ p e. fit.numbers_there p (write_node_less w x (has_written k value x) p wrote_still e);
     open_idle = fit.open_idle;
     engaged_voted = fit.engaged_voted;
   }
 
   written_seen : transaction_of (has_written k value x) ≡ protocol.writes k value true (transaction_of x)
-  written_seen = λ i. record {
-    kind = kind_of x.kind;
-    status = status_of x.state;
-    reading = (transaction_of x).reading;
-    writing = record { wrote = λ j. wrote_after j i; value = λ j. value_set x.written k j value room i };
-    outcome = (transaction_of x).outcome;
-  }
+  written_seen = grind (arith, nat_tests, common_steps)
 
   idle_writer : (p j : ℕ) → engaged_writer w p j (has_written k value x) ≡ engaged_writer w p j x
   idle_writer p j = rw (fit.open_idle p open_now) refl
@@ -208,7 +151,7 @@ write_good free w t k value now =
     (checked (is_begun w t) w (write t k value) NoSuchTransaction _ now
     (λ begun. checked (is_key w k) w (write t k value) NoSuchKey _ now
     (λ key. checked (may Write (transaction w t)) w (write t k value) WrongState _ now
-    (λ may_write_lem. checked (wrote (transaction w t) k || ltb (how_many (transaction w t).written) 8) w (write t k value) TooManyKeysWritten _ now
+    (λ may_write_lem. checked (wrote (transaction w t) k || nat_lt (how_many (transaction w t).written) 8) w (write t k value) TooManyKeysWritten _ now
     (λ few. written w t k value now begun key may_write_lem)))))
 
 -- ── An offer ──
@@ -222,31 +165,31 @@ bit-bit_or a b h =
 
 -- The byte of the holders of the keys that pass a test.
 abbrev holders_byte : (ℕ → Bool) → List ℕ → ℕ → ℕ → ℕ → ℕ
-holders_byte test placement byte k n = fold (λ (byte k : ℕ). cond (test k) (bit_or byte (get_or placement k 0)) byte) byte (range_with_len k n)
+holders_byte test placement byte k n = fold (λ (byte k : ℕ). cond (test k) (bit_or byte (slice_index_or placement k 0)) byte) byte (range_with_len k n)
 
 module _ (test : ℕ → Bool) (placement : List ℕ) (p : ℕ) where
-  one_more : (byte k : ℕ) → bit (cond (test k) (bit_or byte (get_or placement k 0)) byte) p ≡ (bit byte p || (test k && bit (get_or placement k 0) p))
-  one_more byte k = ⊎_elim (λ (e : test k ≡ true). rw (e) (bit-bit_or byte (get_or placement k 0) p)) (λ (e : test k ≡ false). rw (e) (grind arith)) (cases_Bool (test k))
+  one_more : (byte k : ℕ) → bit (cond (test k) (bit_or byte (slice_index_or placement k 0)) byte) p ≡ (bit byte p || (test k && bit (slice_index_or placement k 0) p))
+  one_more byte k = ⊎_elim (λ (e : test k ≡ true). rw (e) (bit-bit_or byte (slice_index_or placement k 0) p)) (λ (e : test k ≡ false). rw (e) (grind arith)) (cases_Bool (test k))
 
-  byte_has : (n byte k : ℕ) → bit (holders_byte test placement byte k n) p ≡ true → (bit byte p ≡ true) ⊎ ((j : ℕ) × (test j ≡ true) × (bit (get_or placement j 0) p ≡ true))
+  byte_has : (n byte k : ℕ) → bit (holders_byte test placement byte k n) p ≡ true → (bit byte p ≡ true) ⊎ ((j : ℕ) × (test j ≡ true) × (bit (slice_index_or placement j 0) p ≡ true))
   byte_has zero byte k e = inl e
   byte_has (suc n) byte k e =
       ⊎_elim
-      (λ (h : bit (cond (test k) (bit_or byte (get_or placement k 0)) byte) p ≡ true).
-      ⊎_elim inl (λ (g : (test k && bit (get_or placement k 0) p) ≡ true). inr (k, (and_parts (test k) (bit (get_or placement k 0) p) g).0, (and_parts (test k) (bit (get_or placement k 0) p) g).1))
-      (or_cases (bit byte p) (test k && bit (get_or placement k 0) p) (sym (one_more byte k) ∙ h)))
-      inr (byte_has n (cond (test k) (bit_or byte (get_or placement k 0)) byte) (k + 1) e)
+      (λ (h : bit (cond (test k) (bit_or byte (slice_index_or placement k 0)) byte) p ≡ true).
+      ⊎_elim inl (λ (g : (test k && bit (slice_index_or placement k 0) p) ≡ true). inr (k, (and_parts (test k) (bit (slice_index_or placement k 0) p) g).0, (and_parts (test k) (bit (slice_index_or placement k 0) p) g).1))
+      (or_cases (bit byte p) (test k && bit (slice_index_or placement k 0) p) (sym (one_more byte k) ∙ h)))
+      inr (byte_has n (cond (test k) (bit_or byte (slice_index_or placement k 0)) byte) (k + 1) e)
 
   byte_keeps : (n byte k : ℕ) → bit byte p ≡ true → bit (holders_byte test placement byte k n) p ≡ true
   byte_keeps zero byte k e = e
-  byte_keeps (suc n) byte k e = byte_keeps n (cond (test k) (bit_or byte (get_or placement k 0)) byte) (k + 1) (one_more byte k ∙ or_left (bit byte p) (test k && bit (get_or placement k 0) p) e)
+  byte_keeps (suc n) byte k e = byte_keeps n (cond (test k) (bit_or byte (slice_index_or placement k 0)) byte) (k + 1) (one_more byte k ∙ or_left (bit byte p) (test k && bit (slice_index_or placement k 0) p) e)
 
-  byte_takes : (n byte k j : ℕ) → k ≤ j → j < k + n → test j ≡ true → bit (get_or placement j 0) p ≡ true → bit (holders_byte test placement byte k n) p ≡ true
+  byte_takes : (n byte k j : ℕ) → k ≤ j → j < k + n → test j ≡ true → bit (slice_index_or placement j 0) p ≡ true → bit (holders_byte test placement byte k n) p ≡ true
   byte_takes zero byte k j from below a b = absurd (omega arith)
   byte_takes (suc n) byte k j from below a b =
       ⊎_elim
-      (λ (e : k ≡ j). byte_keeps n (cond (test k) (bit_or byte (get_or placement k 0)) byte) (k + 1) (one_more byte k ∙ rw (e, a, b) (or_right (bit byte p) true refl)))
-      (λ (h : k ≡ j → ⊥). byte_takes n (cond (test k) (bit_or byte (get_or placement k 0)) byte) (k + 1) j (omega arith) (omega arith) a b)
+      (λ (e : k ≡ j). byte_keeps n (cond (test k) (bit_or byte (slice_index_or placement k 0)) byte) (k + 1) (one_more byte k ∙ rw (e, a, b) (or_right (bit byte p) true refl)))
+      (λ (h : k ≡ j → ⊥). byte_takes n (cond (test k) (bit_or byte (slice_index_or placement k 0)) byte) (k + 1) j (omega arith) (omega arith) a b)
       (cases_eq k j)
 
 pub polled_has : (w : World) (x : Transaction) (p : ℕ) → bit (polled_byte w x) p ≡ true → (k : ℕ) × ((noted x k || wrote x k) ≡ true) × (holds w p k ≡ true)
@@ -261,19 +204,7 @@ polled_takes w x p k l a b = byte_takes (λ k. noted x k || wrote x k) w.placeme
 fits_offered : (w : World) (x : Transaction) → length w.placement ≤ 64 → Fits w x → Fits w (is_now_offered (polled_byte w x) x)
 unfolding is_write_node
 fits_offered w x few f = record {
-  shaped = record {
-    clock = f.shaped.clock;
-    read = f.shaped.read;
-    noted = f.shaped.noted;
-    written = f.shaped.written;
-    voted = f.shaped.voted;
-    engaged = f.shaped.engaged;
-    numbers = f.shaped.numbers;
-    votes = f.shaped.votes;
-    learned = f.shaped.learned;
-    applied = f.shaped.applied;
-    commit = f.shaped.commit;
-  };
+  shaped = grind (arith, nat_tests, common_steps);
   keys_only = f.keys_only;
   polled_sound = λ p e. polled_has w x p e;
   polled_all = λ p k e a b. polled_takes w x p k (omega (arith, f.keys_only k a)) a b;
