@@ -27,7 +27,7 @@ use Rattle.rules.proofs.Keeping.{fits, keeps_change}
 use Rattle.rules.proofs.Later.{Later, later_fits}
 use Rattle.rules.proofs.Sets.{asked_written}
 use Rattle.rules.proofs.Least.{least_waiting_is}
-use Rattle.rules.proofs.Places.{enough, put_all_at, put_balance}
+use Rattle.rules.proofs.Places.{PutsGranted, enough, put_all_at, put_balance, no_put_refused}
 use Rattle.rules.proofs.MoreViews.{view_changed, write_node_view, write_node_world, engaged_begun, seen_after, below_eight, stamp_view, seen_view}
 
 -- A chain with a version put, or not.
@@ -161,6 +161,12 @@ module _ (w : World) (inv : Invariant w) (p : ℕ) (there : is_node w p ≡ true
       let parts = and_parts (marked (transaction w t).engaged p) (is_write_node w (transaction w t) p) found.0 in
       checked (marked (transaction w t).learned p) w (apply p) NotLearned _ inv
       (λ learned. apply_fits w inv t p (waiting_begun w p t e) there parts.0 parts.1 learned found.3)
+
+-- The store grants every put of an apply.
+pub no_put_of_apply_refused : (w : World) → Invariant w → (p t : ℕ) → least_waiting w p ≡ Some t → PutsGranted w.store p t (transaction w t) (written_at w (transaction w t) p)
+no_put_of_apply_refused w inv p t e =
+    let found = least_waiting_is w p t e in
+    no_put_refused w inv t p (waiting_begun w p t e) (and_parts (marked (transaction w t).engaged p) (is_write_node w (transaction w t) p) found.0).0
 
 pub apply_good : (free : FreeRule) (w : World) (p : ℕ) → Invariant w → GoodStep free w (apply p)
 apply_good free w p inv =
