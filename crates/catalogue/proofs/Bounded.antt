@@ -55,10 +55,6 @@ module _ (nodes : List Node) (xs : List Transaction) (i : ℕ) (y : Transaction)
   decided_set all =
       each_set (DecidedWithin (most (set xs i y))) xs blank y i within.1 (λ j. decided_more (most xs) (most (set xs i y)) (get_or xs j blank) higher (all j))
 
--- The tables after a node was replaced.
-pub nodes_replaced : (b : ℕ) (nodes : List Node) (p : ℕ) (n : Node) → NodeWithin b n → NodesWithin b nodes → NodesWithin b (set nodes p n)
-nodes_replaced b nodes p n here all = each_set (NodeWithin b) nodes new_node n p here all
-
 -- A new transaction has raised nothing.
 all_zero : (n q : ℕ) → ◌≡◌ {A = ℕ} (get_or (replicate n 0) q 0) 0
 all_zero zero q = refl

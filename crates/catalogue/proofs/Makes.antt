@@ -18,10 +18,6 @@ all_new (suc n) (suc i) = all_new n i
 pub made_nodes : (b n : ℕ) (ns : List Node) → ns ≡ replicate n new_node → NodesWithin b ns
 made_nodes b n ns is i = subst (NodeWithin b) (sym (ap (λ (l : List Node). get_or l i new_node) is ∙ all_new n i)) (new_node_within b)
 
-none_raised : (xs : List Transaction) → xs ≡ [] → most xs ≡ 0
-unfolding raised
-none_raised xs none = ap most none
-
 pub made_collected : (xs : List Transaction) → xs ≡ [] → AllCollectedWithin (most xs) xs
 unfolding raised
 made_collected xs none = subst (λ (l : List Transaction). AllCollectedWithin (most l) l) (sym none) (λ i. blank_within.0)

@@ -1,11 +1,11 @@
 -- A list of calls, carried out one after the other.
-use Rattle.std.proofs.Common.{◌≡◌, ℕ, ◌+◌, ◌<◌, true, List, [], ◌∷◌, ◌++◌, map, length, get_or, take, sym, refl, ap, ◌∙◌, subst, arith}
+use Rattle.std.proofs.Common.{◌≡◌, ℕ, ◌+◌, ◌<◌, true, List, [], ◌∷◌, ◌++◌, map, length, slice_index_or, take, sym, refl, ap, ◌∙◌, subst, arith}
 use Rattle.std.proofs.lemmas.Bool.Decides.{nat_tests}
-use Rattle.std.proofs.lemmas.List.{take_more}
+use Rattle.std.proofs.lemmas.List.{take_more, map_push}
 use Rattle.calls.specs.declared.answer.Answer.{Answer}
 use Rattle.calls.specs.declared.call.Call.{Call}
 use Rattle.calls.specs.declared.call.Call.TheVariants.{Make}
-use Rattle.calls.specs.Requests.{Request, request}
+use Rattle.calls.specs.Requests.{Request}
 use Rattle.store.specs.Model.{FreeRule}
 use Rattle.rules.specs.World.{World}
 use Rattle.rules.specs.Steps.{can_make, made_world, step, answers_of, world_after}
@@ -29,10 +29,6 @@ pub performed_none : (free : FreeRule) (w : World) (answers : List Answer) → a
 unfolding answers_of world_after
 performed_none free w answers none = record { answered = none; world = refl }
 
-map_push : (xs : List Call) (x : Call) → map request (xs ++ x ∷ []) ≡ map request xs ++ request x ∷ []
-map_push [] x = refl
-map_push (y ∷ ys) x = ap (λ l. request y ∷ l) (map_push ys x)
-
 -- One call more.
 module _ (free : FreeRule) (w now after : World) (rs : List Request) (answers : List Answer) (so_far : Performed free w rs answers now) where
   pub performed_more : (r : Request) (a : Answer) (more : List Answer) → more ≡ answers ++ a ∷ [] → (a, after) ≡ step free now r → Performed free w (rs ++ r ∷ []) more after
@@ -47,8 +43,9 @@ module _ (free : FreeRule) (w now after : World) (rs : List Request) (answers : 
 abbrev pub no_call : Call
 no_call = Make 0 0 (record { ref_ptr = (0, 0); now = [] })
 
-pub taken_more : (calls : List Call) (i : ℕ) → i < length calls → map request (take i calls) ++ request (get_or calls i no_call) ∷ [] ≡ map request (take (i + 1) calls)
-taken_more calls i inside = sym (ap (map request) (take_more calls i no_call inside) ∙ map_push (take i calls) (get_or calls i no_call))
+-- What is told of the first entries of a list, and of one more.
+pub taken_more : {A B : Type 0} (f : A → B) (xs : List A) (i : ℕ) (d : A) → i < length xs → map f (take i xs) ++ f (slice_index_or xs i d) ∷ [] ≡ map f (take (i + 1) xs)
+taken_more f xs i d inside = sym (ap (map f) (take_more xs i d inside) ∙ map_push f (take i xs) (slice_index_or xs i d))
 
 -- A whole run: what was promised of the rules holds of it.
 pub ran : (free rule : FreeRule) (nodes keys : ℕ) (placement : List ℕ) (w after : World) (requests : List Request) (answers : List Answer)

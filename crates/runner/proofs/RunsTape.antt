@@ -1,7 +1,6 @@
 -- The records of a tape, one after the other, and what is promised after the accepted make.
-use Rattle.std.proofs.Common.{◌≡◌, ℕ, ◌+◌, ◌<◌, Bool, true, false, cond, List, [], ◌∷◌, ◌++◌, map, length, get_or, take, Some, None, Ok, Err, Option, sym, refl, ap, ◌∙◌, subst, arith}
+use Rattle.std.proofs.Common.{◌≡◌, ℕ, Bool, true, false, cond, List, [], ◌∷◌, ◌++◌, length, Some, None, Ok, Err, Option, sym, refl, ap, ◌∙◌, subst, arith}
 use Rattle.std.proofs.lemmas.Bool.Decides.{nat_tests}
-use Rattle.std.proofs.lemmas.List.{take_more, map_push}
 use Rattle.calls.specs.declared.answer.Answer.{Answer}
 use Rattle.calls.specs.declared.answer.Answer.TheVariants.{Done, Refused}
 use Rattle.calls.specs.declared.refusal.Refusal.TheVariants.{MakeOutOfBounds}
@@ -9,7 +8,6 @@ use Rattle.calls.specs.declared.call.Call.TheVariants.{Make}
 use Rattle.calls.specs.Requests.{Request, make, begin, read, write, offer, prepare, decide, cancel, learn, apply, finish}
 use Rattle.tape.specs.declared.record.Record.{Record}
 use Rattle.tape.specs.Reading.{Content, Entry, read_tape}
-use Rattle.tape.specs.Records.{entry_of}
 use Rattle.tape.specs.Trips.{said, requests_in}
 use Rattle.listing.specs.declared.line.Line.{Line}
 use Rattle.store.specs.Model.{FreeRule}
@@ -50,9 +48,6 @@ module _ (free : FreeRule) (es : List Entry) (lines : List Line) (now after : Op
 -- What stands past the end of a list of records, to the prover.
 abbrev pub no_record : Record
 no_record = record { place = 0; content = Ok (Make 0 0 (record { ref_ptr = (0, 0); now = [] })) }
-
-pub taken_more : (records : List Record) (i : ℕ) → i < length records → map entry_of (take i records) ++ entry_of (get_or records i no_record) ∷ [] ≡ map entry_of (take (i + 1) records)
-taken_more records i inside = sym (ap (map entry_of) (take_more records i no_record inside) ∙ map_push entry_of (take i records) (get_or records i no_record))
 
 -- ── The accepted make, and the requests after it ──
 

@@ -5,8 +5,9 @@ use Rattle.tape.specs.Reading.{Entry}
 use Rattle.std.specs.Option.{option_map}
 use Rattle.tape.specs.Records.{entry_of}
 use Rattle.catalogue.specs.Tables.{world}
+use Rattle.catalogue.proofs.Performs.{taken_more}
 use Rattle.runner.specs.Running.{RecordsRun}
-use Rattle.runner.proofs.RunsTape.{none_yet, one_more, no_record, taken_more}
+use Rattle.runner.proofs.RunsTape.{none_yet, one_more, no_record}
 use Rattle.runner.proofs.run_records.Goals as goal
 
 pub loop-record-init : goal.loop-record-init
@@ -24,7 +25,7 @@ loop-record-preserved g c =
     λ free counts.
     let earlier = c.in_ok-answer.ensures.rule free counts in
     let more = one_more free (map entry_of (take i records)) c.loop-record.lines.items before after (c.loop-record.invariant free earlier) e c.in_ok-answer.answer lines c.in_ok-push.ensures.items (c.in_ok-answer.ensures.step free earlier) in
-    subst (λ (es : List Entry). RecordsRun free es lines after) (taken_more records i c.loop-record-test.true) more
+    subst (λ (es : List Entry). RecordsRun free es lines after) (taken_more entry_of records i no_record c.loop-record-test.true) more
 
 pub returns : goal.returns
 returns g c =

@@ -28,7 +28,7 @@ loop-call-preserved g c =
     let r : Request = request (get_or calls i no_call) in
     let stepped = c.perform-answer.ensures.step ∙ ap (λ (f : FreeRule). step f v r) c.loop-call.invariant.1 in
     let more = performed_more free w v (world_of after.table (s.meaning after.store)) (map request (take i calls)) c.loop-call.answers.items c.loop-call.invariant.0 r c.perform-answer.result c.push.new.self.items c.in_ok-push.ensures.items stepped in (
-      subst (λ (l : List Request). Performed free w l c.push.new.self.items (world_of after.table (s.meaning after.store))) (taken_more calls i c.loop-call-test.true) more,
+      subst (λ (l : List Request). Performed free w l c.push.new.self.items (world_of after.table (s.meaning after.store))) (taken_more request calls i no_call c.loop-call-test.true) more,
       c.perform-answer.ensures.rule ∙ c.loop-call.invariant.1,
     )
 

@@ -1,4 +1,4 @@
-use Rattle.std.proofs.Common.{◌≡◌, ◌<◌, rules, true, length, arith}
+use Rattle.std.proofs.Common.{◌<◌, rules, length, arith}
 use Rattle.std.proofs.lemmas.Bool.Decides.{nat_tests}
 use Rattle.calls.specs.declared.refusal.Refusal.TheVariants.{NoSuchNode}
 use Rattle.store.specs.Model.{fresh}
