@@ -14,7 +14,7 @@ pub(crate) fn all_keys() -> Range<KeyNumber>
     0..64
 }
 
-/// The byte of a key's holders; no node holds what is no key.
+/// The byte of a key's holders; no node holds what is no key. One expression of the library's methods, as for other rows: a generic function would be no shorter.
 pub(crate) fn holders(placement: &[u8], k: KeyNumber) -> u8
     ensures { result ≡ slice_index placement.now k }
 {
@@ -26,7 +26,7 @@ pub fn holds(placement: &[u8], p: NodeNumber, k: KeyNumber) -> bool
     ensures value { result ≡ bit (slice_index placement.now k) p }
     ensures node { result ≡ true → p < 8 }
 {
-    // The same bit as `records::votes::names` looks at; a crate under both has no code to put it in.
+    // The bit that `records::votes::names` looks at too: one expression, which a function of a crate below both would not make plainer.
     let byte = holders(placement, k);
     p < 8 && (byte >> p) % 2 == 1
 }

@@ -1,4 +1,4 @@
-//! The steps that the scenes are made of: each is a call, printed with its answer.
+//! The steps that the scenes are made of: each is a call, printed with its answer. They differ in the call and in its words, and share the printing.
 
 ghost use Rattle.std.specs.Prelude.{◌≡◌, true};
 

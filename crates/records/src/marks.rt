@@ -1,4 +1,4 @@
-//! Rows with a mark for each node. Past the last node there is no mark.
+//! Rows with a mark for each node. Past the last node there is no mark. One expression of the library's methods: a function generic in the row would be no shorter.
 
 ghost use Rattle.std.specs.Prelude.{◌≡◌};
 ghost use Rattle.clock.specs.Clocks.{marked};

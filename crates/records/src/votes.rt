@@ -15,10 +15,11 @@ use std::ops::Range;
 pub fn count_nodes(nodes: u8) -> u8
     ensures { result ≡ length (nodes_of nodes) }
 {
+    // At most eight.
     nodes.count_ones() as u8
 }
 
-/// Whether a byte names a node.
+/// Whether a byte names a node. (`keys::placing::holds` looks at the bit of a key's holders by the same expression.)
 pub fn names(nodes: u8, p: NodeNumber) -> bool
     ensures { result ≡ bit nodes p }
 {

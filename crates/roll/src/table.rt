@@ -13,7 +13,7 @@ pub mod calls;
 pub const PLACES: usize = 512;
 
 // The versions of all chains in one roll, the oldest first; the places set aside for each chain, at its index; and their
-// running total.
+// running total. A row by version and a row by chain: neither runs beside the other.
 #[derive(Drop)]
 pub struct Roll {
     entries: Vec<Entry>,

@@ -64,6 +64,7 @@ pub fn commit_clock_of(placement: &[u8], x: &Transaction, number: Stamp) -> Cloc
     ensures within { (b : ℕ) → number ≤ b → ClockWithin b x.now.clock → ClockWithin b x.now.votes → ClockWithin b result }
 {
     let base = base_clock(x);
+    // `from_fn` gives the places 0 to 7.
     from_fn(|q| commit_slot(placement, x, q as NodeNumber, number, base[q]))
 }
 

@@ -99,7 +99,7 @@ fn newest_passing<S: VersionStore>(
     ensures newest { (w : World) → w.transactions ≡ transactions.now → result.newest ≡ newest_passes (λ v. passes read (commit_clock w v.writer) clock) (if in_range p k then (S.meaning store.now p k).versions else []) }
 {
     let mut steps: usize = 0;
-    // A store has no iterator: it is asked for one version after the other.
+    // The form that the project keeps for this walk: the answer of `nth` is taken apart. An iterator made of `nth` would be no plainer.
     while let Some((value, writer)) = store.nth(p, k, steps) {
         if passes(read, commit_clock(transactions, writer), clock) {
             return seen_after(steps, value, writer);

@@ -43,7 +43,7 @@ pub fn is_busy(
 ) -> bool
     ensures { (w : World) → w.transactions ≡ transactions.now → w.placement ≡ placement.now → x.now ≡ transaction w t → result ≡ busy w t p }
 {
-    // Loops, and no `any` in an `any`: the first conflict leaves both, which the label says.
+    // The form that the project keeps for this test: nested loops, left by their label at the first conflict.
     let mut found = false;
     'transactions: for (i, other) in transactions.iter().enumerate() {
         if !is_rival(t, i + 1, other, p) {

@@ -1,4 +1,4 @@
-//! What a transaction's record has for a node; nothing for what is no node.
+//! What a transaction's record has for a node; nothing for what is no node. Expressions of the library's methods: a function generic in the row would be no shorter.
 
 ghost use Rattle.std.specs.Prelude.{◌≡◌};
 ghost use Rattle.clock.specs.Clocks.{slot, marked};

@@ -23,6 +23,7 @@ impl<S: VersionStore> Catalogue<S> {
             return Err(Refusal::NumbersUsedUp);
         }
         self.table.begin(kind);
+        // At most 255, by the test above.
         Ok((before + 1) as TransactionNumber)
     }
 

@@ -175,7 +175,7 @@ impl Table {
         holds(&self.placement, p, k)
     }
 
-    // Three names for one replacement: they differ in what they ask and promise of the numbers.
+    // Three names for one replacement, `set_transaction`: one name would have to ask and promise all that the three do, by cases.
 
     /// Replaces the record of a transaction by one that raised no number.
     pub(crate) fn update(&mut self, t: TransactionNumber, x: Transaction)
