@@ -32,6 +32,7 @@ impl Refusal {
     pub fn number(self) -> u8
         ensures { result ≡ number self }
     {
+        // The discriminant, which the enum gives: Rust has no other word for it than `as`.
         self as u8
     }
 }

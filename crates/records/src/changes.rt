@@ -11,6 +11,8 @@ pub mod reading;
 pub mod voting;
 pub mod writing;
 
+// `Keeps` is one word in the contract of each change: it is said of a record before and after, which no invariant of the type could see.
+
 /// A transaction as it begins.
 pub fn new_transaction(kind: Kind) -> Transaction
     ensures { result ≡ new_transaction kind }

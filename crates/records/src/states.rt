@@ -8,6 +8,8 @@ ghost use Rattle.records.specs.Bounds.{is_committed, for_undecided};
 use calls::refusal::Refusal;
 use rules::records::{Event, Kind, State, Transaction};
 
+// That a record is not committed is one word in a few contracts, and no type of record: a call is asked of a record in any state, and `allow` is the test.
+
 /// Whether a transaction is in the state that an event needs.
 pub fn allow(x: &Transaction, event: Event) -> Result<(), Refusal>
     ensures value { result ≡ (if may event x.now then Ok tt else Err WrongState) }

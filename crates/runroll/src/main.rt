@@ -4,6 +4,7 @@
 use roll::Roll;
 use runtape::listing_from;
 
+// The other program's `main` is this one over its own store: a program has a `main`, and what both do is `listing_from`.
 fn main(rt: HostRuntime) -> anyhow::Result<()> {
     let listing = listing_from::<Roll, _>(rt.alloc(), rt.stdin())?;
     print!(rt; "{listing}")?;

@@ -14,6 +14,7 @@ use store::VersionStore;
 use tape::kinds::MAX_TAPE;
 
 /// A byte more than a tape may have: of a tape that is too long no more has to be read.
+// By `as`: no call of `from` or `try_from` can stand in a constant.
 const ENOUGH: u64 = MAX_TAPE as u64 + 1;
 
 /// Reads a tape to its end, runs it on a new unit, and gives the listing. Of a tape that is too long a byte more is read than a tape may have.

@@ -82,6 +82,7 @@ struct Cursor<'a> {
     at: usize,
 }
 
+// That a cursor stays on its buffer is a clause of each method: it is said of a cursor before and after, which no invariant of the type could see.
 impl Cursor<'_> {
     /// Writes some bytes.
     fn put(&mut self, bytes: &[u8])
@@ -103,8 +104,10 @@ impl Cursor<'_> {
         ensures after { self.new.buffer.now ≡ over self.old.buffer.now self.old.at (record_with (number_of kind) (fields.now ++ rest.now)) }
         ensures place { self.new.at ≡ self.old.at + 4 + length fields.now + length rest.now }
     {
+        // It fits, by `short`: a `try_from` would bring a branch that never runs.
         let len = (2 + fields.len() + rest.len()) as u16;
         self.put(&len.to_le_bytes());
+        // The discriminant of the kind, for which Rust has no other word.
         self.put(&(kind as u16).to_le_bytes());
         self.put(fields);
         self.put(rest);

@@ -132,6 +132,8 @@ impl Table {
         Ok((x, n))
     }
 
+    // That a number is begun is one word in the contracts below: it is said of a number and a table, so that no type of number could keep it.
+
     /// The record of a transaction that is begun.
     pub(crate) fn record(&self, t: TransactionNumber) -> Transaction
         requires { is_begun (world_of self.now fresh) t ≡ true }

@@ -10,6 +10,8 @@ use calls::sizes::{NodeNumber, Stamp};
 use clock::{Clock, join};
 use rules::records::Transaction;
 
+// That the node has not voted is a premise of each: it is said of a record and a node at one moment, and the record may be voted on by others.
+
 /// The transaction after a node's no.
 pub fn voted_no(x: Transaction, p: NodeNumber) -> Transaction
     ensures value { result ≡ has_no p x }
