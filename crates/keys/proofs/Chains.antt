@@ -17,8 +17,10 @@ use Rattle.std.proofs.lemmas.List.FromFn.{length-range_with_len}
 use Rattle.std.proofs.lemmas.List.Sums.{length-filter, count_by-le-length}
 use denote.Param.Members.{Mut}
 use denote.Ref.{Bor}
-use Rattle.rules.specs.World.{some_below}
+use lib.Bits.{bit_or}
+use Rattle.rules.specs.World.{bit, some_below}
 use Rattle.rules.specs.Steps.{all_placed}
+use Rattle.rules.proofs.Writes.{bit-bit_or}
 
 -- Counting one further.
 pub counting_more : (a n : ℕ) → range_with_len a (suc n) ≡ range_with_len a n ++ (a + n) ∷ []
@@ -78,3 +80,19 @@ module _ {F : Type 0} {g : Mut F (Bor ℕ × Unit {0}) Bool} {f : F} (test : ℕ
 -- A row whose first elements are collected, with one more behind them.
 pub taken_with : {xs : List ℕ} (row : List ℕ) (count k : ℕ) → count < length row → take count row ≡ xs → take (count + 1) (set row count k) ≡ xs ++ k ∷ []
 taken_with row count k inside so_far = ap (λ (n : ℕ). take n (set row count k)) (add-one count) ∙ take-suc-set row count k inside ∙ ap (λ l. l ++ k ∷ []) so_far
+
+or_apart : (a b c : Bool) → ((a || b) || c) ≡ (a || (b || c))
+or_apart true b c = refl
+or_apart false b c = refl
+
+-- A bit of the byte that a fold makes of bytes: some byte that passes the test has it, or the fold began with it.
+pub bit-fold : (test : ℕ → Bool) (byte_at : ℕ → ℕ) (p byte : ℕ) (ks : List ℕ) → bit (fold (λ b k. cond (test k) (bit_or b (byte_at k)) b) byte ks) p ≡ (bit byte p || list_any (λ k. test k && bit (byte_at k) p) ks)
+bit-fold test byte_at p byte [] = grind arith
+bit-fold test byte_at p byte (k ∷ ks) = go (test k) (λ b. bit-fold test byte_at p b ks)
+  where
+    rest : Bool
+    rest = list_any (λ j. test j && bit (byte_at j) p) ks
+
+    go : (kept : Bool) → ((b : ℕ) → bit (fold (λ c j. cond (test j) (bit_or c (byte_at j)) c) b ks) p ≡ (bit b p || rest)) → bit (fold (λ c j. cond (test j) (bit_or c (byte_at j)) c) (cond kept (bit_or byte (byte_at k)) byte) ks) p ≡ (bit byte p || ((kept && bit (byte_at k) p) || rest))
+    go true more = more (bit_or byte (byte_at k)) ∙ ap (λ (b : Bool). b || rest) (bit-bit_or byte (byte_at k) p) ∙ or_apart (bit byte p) (bit (byte_at k) p) rest
+    go false more = more byte

@@ -1,10 +1,10 @@
 //! Whether a transaction writes at a node.
 
-ghost use Rattle.std.specs.Prelude.{◌≡◌, ◌&&◌, slice_index};
+ghost use Rattle.std.specs.Prelude.{◌≡◌, ℕ, ◌&&◌, slice_index};
 ghost use Rattle.rules.specs.World.{World, bit, wrote, is_write_node};
 
 use crate::named::has_written;
-use crate::placing::{all_keys, holds};
+use crate::placing::{all_keys, holders, holds};
 use calls::sizes::{KeyNumber, NodeNumber};
 use rules::records::Transaction;
 
@@ -20,4 +20,13 @@ pub fn writes_at(placement: &[u8], x: &Transaction, p: NodeNumber) -> bool
     ensures { (w : World) → w.placement ≡ placement.now → result ≡ is_write_node w x.now p }
 {
     all_keys().any(|k| writes_key(placement, x, p, k))
+}
+
+/// The byte of all nodes at which a transaction writes: who asks of all of them goes through the keys once.
+pub fn write_nodes(placement: &[u8], x: &Transaction) -> u8
+    ensures { (w : World) → w.placement ≡ placement.now → (q : ℕ) → bit result q ≡ is_write_node w x.now q }
+{
+    all_keys()
+        .filter(|k| has_written(x, *k))
+        .fold(0, |byte, k| byte | holders(placement, k))
 }

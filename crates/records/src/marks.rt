@@ -4,11 +4,10 @@ ghost use Rattle.std.specs.Prelude.{◌≡◌};
 ghost use Rattle.clock.specs.Clocks.{marked};
 
 use calls::sizes::NodeNumber;
-use clock::NodeMarks;
 
-/// Whether a node is marked.
-pub fn is_marked(marks: NodeMarks, p: NodeNumber) -> bool
-    ensures { result ≡ marked marks p }
+/// Whether a node is marked. The row is lent: copied, it would cost more than the look at it where all transactions are gone through.
+pub fn is_marked(marks: &[bool], p: NodeNumber) -> bool
+    ensures { result ≡ marked marks.now p }
 {
     marks.get(usize::from(p)).copied().unwrap_or(false)
 }

@@ -37,7 +37,7 @@ pub fn is_polled(x: &Transaction, p: NodeNumber) -> bool
 fn has_voted(x: &Transaction, p: NodeNumber) -> bool
     ensures { result ≡ (not (bit x.now.polled p) || marked x.now.voted p) }
 {
-    !is_polled(x, p) || is_marked(x.voted, p)
+    !is_polled(x, p) || is_marked(&x.voted, p)
 }
 
 /// All nodes, from the first to the last.

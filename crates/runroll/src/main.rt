@@ -7,6 +7,7 @@ use runtape::listing_from;
 // The other program's `main` is this one over its own store: a program has a `main`, and what both do is `listing_from`.
 fn main(rt: HostRuntime) -> anyhow::Result<()> {
     let listing = listing_from::<Roll, _>(rt.alloc(), rt.stdin())?;
-    print!(rt; "{listing}")?;
+    // One write of the whole text: a printing macro would go through it byte by byte.
+    rt.write_all(listing.as_bytes())?;
     Ok(())
 }

@@ -1,5 +1,5 @@
 -- The stamp of a commit and the commit clock, and how high they can be.
-use Rattle.std.proofs.Common.{◌≡◌, ℕ, zero, suc, ◌+◌, ◌^◌, ◌<◌, ◌≤◌, max, true, cond, ltb, List, [], map, get_or, Some, None, Option, sym, refl, ◌∙◌, subst, arith, ⊎_elim}
+use Rattle.std.proofs.Common.{◌≡◌, ℕ, zero, suc, ◌+◌, ◌^◌, ◌<◌, ◌≤◌, max, Bool, true, cond, ltb, List, [], map, get_or, Some, None, Option, sym, refl, ap, ◌∙◌, subst, arith, ⊎_elim}
 use Rattle.std.proofs.lemmas.List.FromFn.{fill_by_all}
 use Rattle.std.proofs.lemmas.Bool.{cases_eq, cond-true, cond_both, lt-ltb}
 use Rattle.std.specs.Array.{IsFromFnResult, IsFromFnResultFrom}
@@ -11,7 +11,7 @@ use Rattle.clock.specs.Numbers.{highest, stamp_number, if_fits}
 use Rattle.clock.proofs.Least.{highest_below, some_leaves, least_leaving}
 use Rattle.store.specs.Model.{fresh}
 use Rattle.rules.specs.declared.records.Transaction.{Transaction}
-use Rattle.rules.specs.World.{World, is_write_node, some_below}
+use Rattle.rules.specs.World.{World, bit, is_write_node, some_below}
 use Rattle.rules.specs.Changes.{is_committed}
 use Rattle.rules.specs.Deciding.{base_clock, stamp_of, stamped}
 use Rattle.records.specs.Bounds.{ClockWithin}
@@ -76,10 +76,16 @@ made_all : {F : Type 0} {g : Mut F (ℕ × Unit {0}) ℕ} {f : F} (h : ℕ → �
 made_all {g = g} h ys made computes =
     fill_by_all h ys 8 0 made.long (λ k l. made_by {g = g} h ys 0 8 0 made.each computes k (omega arith) l)
 
--- The commit clock, where a closure computes its slots.
-pub stamped_by : {F : Type 0} {g : Mut F (ℕ × Unit {0}) ℕ} {f : F} (w : World) (x : Transaction) (number : ℕ) (commit : List ℕ) → IsFromFnResult g f commit 8 → ((k y : ℕ) (q : F) → k < 8 → Called g f (k, tt) y q → (q ≡ f) × (y ≡ cond (is_write_node w x k) number (slot (base_clock x) k))) → commit ≡ stamped w x number
+-- The commit clock, where a closure computes its slots from the byte of the write nodes and from the base.
+pub stamped_by : {F : Type 0} {g : Mut F (ℕ × Unit {0}) ℕ} {f : F} (w : World) (x : Transaction) (number nodes : ℕ) (base commit : List ℕ) → ((q : ℕ) → bit nodes q ≡ is_write_node w x q) → base ≡ base_clock x → IsFromFnResult g f commit 8 → ((k y : ℕ) (q : F) → k < 8 → Called g f (k, tt) y q → (q ≡ f) × (y ≡ cond (bit nodes k) number (slot base k))) → commit ≡ stamped w x number
 unfolding stamped
-stamped_by {g = g} w x number commit made computes = made_all {g = g} (λ k. cond (is_write_node w x k) number (slot (base_clock x) k)) commit made computes
+stamped_by {g = g} w x number nodes base commit named is made computes =
+    made_all {g = g} (λ k. cond (is_write_node w x k) number (slot (base_clock x) k)) commit made
+    (λ k y q l called.
+    let slots = computes k y q l called in (
+      slots.0,
+      slots.1 ∙ ap (λ (b : Bool). cond b number (slot base k)) (named k) ∙ ap (λ (clock : List ℕ). cond (is_write_node w x k) number (slot clock k)) is,
+    ))
 
 -- A world with this placement, and nothing else.
 abbrev placed : List ℕ → World

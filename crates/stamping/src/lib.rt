@@ -5,14 +5,15 @@
 
 ghost use Rattle.std.specs.Prelude.{◌≡◌, ℕ, ◌+◌, ◌^◌, ◌<◌, ◌≤◌, if◌then◌else◌, Some, None, nat_lt};
 ghost use Rattle.clock.specs.Numbers.{if_fits};
-ghost use Rattle.rules.specs.World.{World, some_below, is_write_node};
+ghost use Rattle.rules.specs.World.{World, bit, some_below, is_write_node};
 ghost use Rattle.rules.specs.Changes.{is_committed};
 ghost use Rattle.rules.specs.Deciding.{base_clock, stamp_of, stamped};
 ghost use Rattle.records.specs.Bounds.{ClockWithin};
 
 use calls::sizes::{NodeNumber, Stamp, TransactionNumber};
 use clock::{Clock, join, stamp};
-use keys::writing::writes_at;
+use keys::writing::write_nodes;
+use records::votes::names;
 use rules::records::{State, Transaction};
 use std::array::from_fn;
 
@@ -20,7 +21,8 @@ use std::array::from_fn;
 fn has_write_node(placement: &[u8], x: &Transaction) -> bool
     ensures { (w : World) → w.placement ≡ placement.now → result ≡ some_below 8 (is_write_node w x.now) }
 {
-    (0..8).any(|p| writes_at(placement, x, p))
+    let nodes = write_nodes(placement, x);
+    (0..8).any(|p| names(nodes, p))
 }
 
 /// The base of an update: the join of its clock and of the clocks that the votes carried.
@@ -42,20 +44,10 @@ pub fn stamp_of(placement: &[u8], t: TransactionNumber, x: &Transaction) -> Opti
 }
 
 /// What the commit clock of an update has for a node: the stamp at a write node, and else what its base has.
-fn commit_slot(
-    placement: &[u8],
-    x: &Transaction,
-    q: NodeNumber,
-    number: Stamp,
-    base: Stamp,
-) -> Stamp
-    ensures { (w : World) → w.placement ≡ placement.now → result ≡ (if is_write_node w x.now q then number else base) }
+fn commit_slot(nodes: u8, q: NodeNumber, number: Stamp, base: Stamp) -> Stamp
+    ensures { result ≡ (if bit nodes q then number else base) }
 {
-    if writes_at(placement, x, q) {
-        number
-    } else {
-        base
-    }
+    if names(nodes, q) { number } else { base }
 }
 
 /// The commit clock of an update with this stamp. No slot is higher than the stamp and all slots that it is made from.
@@ -63,9 +55,10 @@ pub fn commit_clock_of(placement: &[u8], x: &Transaction, number: Stamp) -> Cloc
     ensures value { (w : World) → w.placement ≡ placement.now → result ≡ stamped w x.now number }
     ensures within { (b : ℕ) → number ≤ b → ClockWithin b x.now.clock → ClockWithin b x.now.votes → ClockWithin b result }
 {
+    let nodes = write_nodes(placement, x);
     let base = base_clock(x);
     // `from_fn` gives the places 0 to 7.
-    from_fn(|q| commit_slot(placement, x, q as NodeNumber, number, base[q]))
+    from_fn(|q| commit_slot(nodes, q as NodeNumber, number, base[q]))
 }
 
 /// An update with its stamp and its commit clock.

@@ -42,7 +42,7 @@ pub fn commit_clock(transactions: &[Transaction], writer: TransactionNumber) -> 
 fn with_passing(x: &Transaction, p: NodeNumber, joined: Clock, u: &Transaction) -> Clock
     ensures { result ≡ with_passing x.now.read x.now.clock p joined u.now }
 {
-    if is_marked(u.applied, p) && passes(x.read, u.commit, x.clock) {
+    if is_marked(&u.applied, p) && passes(x.read, u.commit, x.clock) {
         join(joined, u.commit)
     } else {
         joined
@@ -68,7 +68,7 @@ pub fn clock_after(x: &Transaction, p: NodeNumber, transactions: &[Transaction])
     ensures value { (w : World) → w.transactions ≡ transactions.now → result ≡ clock_after w x.now p }
     ensures within { (b : ℕ) → ClockWithin b x.now.clock → ((i : ℕ) → ClockWithin b (slice_index_or transactions.now i (new_transaction Search)).commit) → ClockWithin b result }
 {
-    if is_marked(x.read, p) {
+    if is_marked(&x.read, p) {
         x.clock
     } else {
         with_all_passing(x, p, transactions)

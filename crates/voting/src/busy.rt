@@ -30,7 +30,8 @@ fn conflict_at(
 fn is_rival(t: TransactionNumber, u: usize, other: &Transaction, p: NodeNumber) -> bool
     ensures { result ≡ (not (u == t) && marked other.now.engaged p) }
 {
-    u != usize::from(t) && is_engaged(other, p)
+    // Engaged are few, so that is looked at first.
+    is_engaged(other, p) && u != usize::from(t)
 }
 
 /// Whether another update that is engaged at a node conflicts there with `t`, whose record is `x`.

@@ -11,7 +11,7 @@ use rules::records::Transaction;
 pub(crate) fn is_engaged(x: &Transaction, p: NodeNumber) -> bool
     ensures { result ≡ marked x.now.engaged p }
 {
-    is_marked(x.engaged, p)
+    is_marked(&x.engaged, p)
 }
 
 /// The number of an update at a node.

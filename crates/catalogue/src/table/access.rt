@@ -126,7 +126,7 @@ impl Table {
         if !is_polled(&x, p) {
             return Err(Refusal::NotPolled);
         }
-        if is_marked(x.learned, p) {
+        if is_marked(&x.learned, p) {
             return Err(Refusal::AlreadyDone);
         }
         Ok((x, n))
