@@ -1,5 +1,4 @@
 pub mod Bounded
-pub mod Makes
 pub mod Answering
 pub mod Votes
 pub mod Known

@@ -12,13 +12,16 @@ use calls::refusal::Refusal;
 use keys::placing::can_make;
 use std::alloc::{AllocError, AllocFailed, Global};
 use store::VersionStore;
+use thiserror::Error;
 
 /// Why a catalogue was not made.
-#[derive(Clone, Copy)]
+#[derive(Clone, Copy, Debug, PartialEq, Eq, Error)]
 pub enum MakeError {
     /// The counts or the placement are not those of a catalogue.
+    #[error("{refusal}")]
     Refused { refusal: Refusal },
     /// There is not enough memory.
+    #[error("not enough memory for a catalogue")]
     OutOfMemory,
 }
 

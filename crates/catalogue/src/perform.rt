@@ -1,13 +1,13 @@
 //! Any call, and any list of calls.
 
 ghost use Rattle.std.specs.Prelude.{◌≡◌, ℕ, true, List, [], map, Err, IfOk, MatchResult};
-ghost use Rattle.calls.specs.Requests.{request};
+ghost use Rattle.calls.specs.Requests.{begin, request};
 ghost use Rattle.rules.specs.Steps.{can_make, made_world, step};
 ghost use Rattle.rules.specs.Transcript.{with_answers};
 ghost use Rattle.rules.specs.Promises.{Promises};
 ghost use Rattle.catalogue.specs.Tables.{world};
 ghost use Rattle.catalogue.specs.Making.{WhyNotMade};
-ghost use Rattle.catalogue.specs.Replies.{done};
+ghost use Rattle.catalogue.specs.Replies.{begun, done};
 ghost use Rattle.catalogue.specs.declared.make.MakeError.TheVariants.{OutOfMemory};
 ghost use Rattle.catalogue.specs.Runs.{Performed, Ran};
 
@@ -19,6 +19,7 @@ use crate::replies::{
 use calls::answer::Answer;
 use calls::call::Call;
 use calls::refusal::Refusal;
+use calls::sizes::TransactionNumber;
 use rules::records::Kind;
 use std::alloc::Global;
 use store::VersionStore;
@@ -38,10 +39,7 @@ impl<S: VersionStore> Catalogue<S> {
     {
         match *call {
             Call::Make { .. } => refused(Refusal::MakeOutOfOrder),
-            Call::Begin { mode } => match Kind::try_from(mode) {
-                Ok(kind) => of_begin(self.begin(kind)),
-                Err(refusal) => refused(refusal),
-            },
+            Call::Begin { mode } => of_begin(self.begin_by_mode(mode)),
             Call::Read {
                 transaction,
                 key,
@@ -60,6 +58,14 @@ impl<S: VersionStore> Catalogue<S> {
             Call::Apply { node } => of_apply(self.apply(node)),
             Call::Finish { transaction } => of_done(self.finish(transaction)),
         }
+    }
+
+    /// Opens a transaction of the kind that a mode stands for, and gives its number.
+    fn begin_by_mode(&mut self, mode: u8) -> Result<TransactionNumber, Refusal>
+        ensures step { (begun result, world S.meaning self.new) ≡ step (S.free self.old.store) (world S.meaning self.old) (begin mode) }
+        ensures rule { S.free self.new.store ≡ S.free self.old.store }
+    {
+        self.begin(Kind::try_from(mode)?)
     }
 
     /// Carries out a list of calls.

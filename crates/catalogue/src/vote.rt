@@ -3,7 +3,7 @@
 use calls::sizes::{KeyNumber, Stamp};
 
 /// A node's vote.
-#[derive(Clone, Copy)]
+#[derive(Clone, Copy, Debug, PartialEq, Eq)]
 pub enum Vote {
     /// The update's number at the node, or 0 where it writes nothing there.
     Yes { number: Stamp },

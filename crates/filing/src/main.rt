@@ -9,13 +9,17 @@ use roll::Roll;
 use shelf::Shelf;
 use store::{Version, VersionStore};
 
+/// Carries out the task over a new store.
+fn tell<S: VersionStore>(rt: &HostRuntime, title: &str) -> anyhow::Result<()> {
+    println!(rt; "{title}")?;
+    let mut store = S::new(rt.alloc())?;
+    task::run(rt, &mut store)?;
+    Ok(())
+}
+
 fn main(rt: HostRuntime) -> anyhow::Result<()> {
-    println!(rt; "On the shelf:")?;
-    let mut shelf = Shelf::new(rt.alloc())?;
-    task::run(&rt, &mut shelf)?;
-    println!(rt; "On the roll:")?;
-    let mut roll = Roll::new(rt.alloc())?;
-    task::run(&rt, &mut roll)?;
+    tell::<Shelf>(&rt, "On the shelf:")?;
+    tell::<Roll>(&rt, "On the roll:")?;
     let version = Version {
         value: 101,
         writer: 1,

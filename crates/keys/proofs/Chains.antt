@@ -1,5 +1,5 @@
 -- A chain that tests numbers or bytes, as the definitions of the rules test them.
-use Rattle.std.proofs.Common.{◌≡◌, ℕ, zero, suc, ◌+◌, ◌<◌, Bool, true, false, ◌^◌, ◌||◌, ◌&&◌, List, [], ◌∷◌, ◌++◌, cond, fold, filter, Some, None, Option, nat_lt, refl, sym, ap, ◌∙◌, add-one, arith, length, take, set, take-suc-set}
+use Rattle.std.proofs.Common.{◌≡◌, ℕ, zero, suc, ◌+◌, ◌<◌, Bool, true, false, ◌^◌, ◌||◌, ◌&&◌, List, [], ◌∷◌, ◌++◌, cond, fold, filter, Some, None, Option, nat_lt, refl, sym, ap, ◌∙◌, arith, length}
 use Rattle.std.specs.Fn.{Called, CalledAt}
 use Rattle.std.specs.Iterator.{Yields, YieldsThen}
 use Rattle.std.specs.Iterator.Adapters.{filter_callee, filter_source, filter_steps}
@@ -76,10 +76,6 @@ module _ {F : Type 0} {g : Mut F (Bor ℕ × Unit {0}) Bool} {f : F} (test : ℕ
 
   pub all_given : {made s t : Filter (Range ℕ) F} {r : Option ℕ} (u : Filter (Range ℕ) F) (xs : List ℕ) → s ≡ made → filter_source made ≡ record { start = 0; end = 64 } → filter_callee made ≡ f → Yields (filter_steps nat_range_steps g) s xs t → filter_steps nat_range_steps g t r u → r ≡ None → Computes g f test → xs ≡ filter test (range_with_len 0 64)
   all_given u xs moved source callee given next is computes = sym (map-id xs) ∙ (YieldsList-end (keys_kept moved source callee computes) xs _ given _ _ is next).0
-
--- A row whose first elements are collected, with one more behind them.
-pub taken_with : {xs : List ℕ} (row : List ℕ) (count k : ℕ) → count < length row → take count row ≡ xs → take (count + 1) (set row count k) ≡ xs ++ k ∷ []
-taken_with row count k inside so_far = ap (λ (n : ℕ). take n (set row count k)) (add-one count) ∙ take-suc-set row count k inside ∙ ap (λ l. l ++ k ∷ []) so_far
 
 or_apart : (a b c : Bool) → ((a || b) || c) ≡ (a || (b || c))
 or_apart true b c = refl

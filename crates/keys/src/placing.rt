@@ -5,6 +5,7 @@ ghost use Rattle.rules.specs.World.{bit};
 ghost use Rattle.rules.specs.Steps.{all_placed, can_make};
 
 use calls::sizes::{KeyNumber, NodeNumber};
+use rules::nodes::names;
 use std::ops::Range;
 
 /// All keys, from the lowest to the highest.
@@ -26,9 +27,7 @@ pub fn holds(placement: &[u8], p: NodeNumber, k: KeyNumber) -> bool
     ensures value { result ≡ bit (slice_index placement.now k) p }
     ensures node { result ≡ true → p < 8 }
 {
-    // The bit that `records::votes::names` looks at too: one expression, which a function of a crate below both would not make plainer.
-    let byte = holders(placement, k);
-    p < 8 && (byte >> p) % 2 == 1
+    names(holders(placement, k), p)
 }
 
 /// Whether a byte names a holder, and no node past the last.

@@ -7,7 +7,6 @@ mod report;
 mod scenes;
 mod story;
 
-use anyhow::anyhow;
 use catalogue::catalogue::Catalogue;
 use folders::PLACEMENT;
 use report::Report;
@@ -19,9 +18,7 @@ use story::Story;
 
 /// Tells the story over a new store.
 fn tell<S: VersionStore>(rt: &HostRuntime) -> anyhow::Result<()> {
-    let catalogue = Catalogue::<S>::make(rt.alloc(), 2, 2, &PLACEMENT).map_err(|_| anyhow!(
-        "no catalogue was made"
-    ))?;
+    let catalogue = Catalogue::<S>::make(rt.alloc(), 2, 2, &PLACEMENT)?;
     let mut story = Story {
         report: Report::new(rt),
         catalogue,

@@ -1,20 +1,21 @@
 //! Rows with an entry for each node or for each key. Past the end of a row no key is there, and no entry is changed.
 
 ghost use Rattle.std.specs.Prelude.{◌≡◌, ◌||◌, None, nat_lt, slice_index_or, slice_set};
-ghost use Rattle.rules.specs.World.{is_there, how_many};
+ghost use Rattle.std.specs.Option.{is_some};
+ghost use Rattle.rules.specs.World.{how_many};
 
 use calls::sizes::KeyNumber;
 
 /// Whether a row has room for a key: the key is there, or fewer than eight are.
 pub fn has_room<T: Copy>(row: &[Option<T>], k: KeyNumber) -> bool
-    ensures { result ≡ (is_there (slice_index_or row.now k None) || nat_lt (how_many row.now) 8) }
+    ensures { result ≡ (is_some (slice_index_or row.now k None) || nat_lt (how_many row.now) 8) }
 {
     is_there(row, k) || how_many(row) < 8
 }
 
 /// Whether a key of a row is there.
 pub fn is_there<T: Copy>(row: &[Option<T>], k: KeyNumber) -> bool
-    ensures { result ≡ is_there (slice_index_or row.now k None) }
+    ensures { result ≡ is_some (slice_index_or row.now k None) }
 {
     row.get(usize::from(k)).is_some_and(|entry| entry.is_some())
 }

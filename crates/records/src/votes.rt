@@ -7,6 +7,7 @@ ghost use Rattle.rules.specs.Deciding.{nodes_of, all_voted};
 
 use crate::marks::is_marked;
 use calls::sizes::NodeNumber;
+use rules::nodes::names;
 use rules::records::Transaction;
 use std::ops::Range;
 
@@ -17,13 +18,6 @@ pub fn count_nodes(nodes: u8) -> u8
 {
     // At most eight.
     nodes.count_ones() as u8
-}
-
-/// Whether a byte names a node. (`keys::placing::holds` looks at the bit of a key's holders by the same expression.)
-pub fn names(nodes: u8, p: NodeNumber) -> bool
-    ensures { result ≡ bit nodes p }
-{
-    p < 8 && (nodes >> p) % 2 == 1
 }
 
 /// Whether an offered update polls a node.

@@ -4,6 +4,7 @@ use Rattle.std.proofs.lemmas.List.{length-append}
 use Rattle.std.proofs.lemmas.Bool.{or_from, eq-eqb, cases_Bool, both_ways, ltb-true, cond-false}
 use Rattle.std.proofs.lemmas.Bool.Decides.{nat_tests}
 use Rattle.std.proofs.lemmas.Grind.{common_steps}
+use Rattle.std.specs.Option.{is_some, unwrap_or}
 use Rattle.calls.specs.declared.answer.Answer.TheVariants.{Begun}
 use Rattle.calls.specs.declared.refusal.Refusal.TheVariants.{NumbersUsedUp, BadRecord}
 use Rattle.calls.specs.Requests.{begin}
@@ -13,7 +14,7 @@ use Rattle.history.specs.Protocol as protocol
 use Rattle.rules.specs.declared.records.Kind.{Kind}
 use Rattle.rules.specs.declared.records.Kind.TheVariants.{Search, Update}
 use Rattle.rules.specs.declared.records.Transaction.{Transaction}
-use Rattle.rules.specs.World.{World, is_begun, holds, transaction, new_transaction, no_marks, bit, is_there, value_or, noted, wrote, is_write_node}
+use Rattle.rules.specs.World.{World, is_begun, holds, transaction, new_transaction, no_marks, bit, noted, wrote, is_write_node}
 use Rattle.rules.specs.Changes.{is_offered}
 use Rattle.rules.specs.Deciding.{begin_call}
 use Rattle.rules.proofs.View.{view, kind_of, transaction_of, participation_of}
@@ -33,13 +34,13 @@ get_or-blank (suc n) (suc i) d = get_or-blank n i d
 
 module _ (kind : Kind) where
   unnoted : (k : ℕ) → noted (new_transaction kind) k ≡ false
-  unnoted k = ap (λ (o : Option ℕ). is_there o) (get_or-blank {X = Option ℕ} 64 k None)
+  unnoted k = ap (λ (o : Option ℕ). is_some o) (get_or-blank {X = Option ℕ} 64 k None)
 
   unwritten : (k : ℕ) → wrote (new_transaction kind) k ≡ false
-  unwritten k = ap (λ (o : Option ℕ). is_there o) (get_or-blank {X = Option ℕ} 64 k None)
+  unwritten k = ap (λ (o : Option ℕ). is_some o) (get_or-blank {X = Option ℕ} 64 k None)
 
-  no_value : (k : ℕ) → value_or (slice_index_or (replicate {A = Option ℕ} 64 None) k None) 0 ≡ 0
-  no_value k = ap (λ (o : Option ℕ). value_or o 0) (get_or-blank {X = Option ℕ} 64 k None)
+  no_value : (k : ℕ) → unwrap_or (slice_index_or (replicate {A = Option ℕ} 64 None) k None) 0 ≡ 0
+  no_value k = ap (λ (o : Option ℕ). unwrap_or o 0) (get_or-blank {X = Option ℕ} 64 k None)
 
   untouched : (k : ℕ) → (noted (new_transaction kind) k || wrote (new_transaction kind) k) ≡ true → ⊥
   untouched k e = both_ways (noted (new_transaction kind) k || wrote (new_transaction kind) k) (or_from (noted (new_transaction kind) k) (wrote (new_transaction kind) k) (unnoted k) (unwritten k)) e

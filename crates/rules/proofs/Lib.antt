@@ -1,3 +1,4 @@
+pub mod Bits
 pub mod View
 pub mod Invariant
 pub mod Checks

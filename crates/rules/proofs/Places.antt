@@ -22,9 +22,6 @@ versions_kept : (b : Bool) (c : Chain) (a : ℕ) → (cond b (record { versions 
 versions_kept true c a = refl
 versions_kept false c a = refl
 
-pub aside_versions : (m : Meaning) (p : ℕ) (ks : List ℕ) (q k : ℕ) → (all_aside m p ks q k).versions ≡ (m q k).versions
-aside_versions m p ks q k = versions_kept (eqb q p && in_range q k) (m q k) ((m q k).aside + asked ks k)
-
 pub back_versions : (m : Meaning) (p : ℕ) (ks : List ℕ) (q k : ℕ) → (all_back m p ks q k).versions ≡ (m q k).versions
 back_versions m p ks q k = versions_kept (eqb q p && in_range q k) (m q k) ((m q k).aside - asked ks k)
 

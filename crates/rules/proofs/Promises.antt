@@ -4,6 +4,7 @@ use mathlib.Core.List.{Perm}
 use Rattle.std.proofs.lemmas.Bool.{cases_Bool, both_ways, leb-false, lt-leb, and_from, ltb-true, lt-ltb, eqb-true}
 use Rattle.std.proofs.lemmas.Bool.Decides.{nat_tests}
 use Rattle.std.proofs.lemmas.Grind.{common_steps}
+use Rattle.std.specs.Option.{is_some}
 use Rattle.rules.proofs.Views.{view_begun as shown}
 use Rattle.calls.specs.declared.answer.Answer.{Answer}
 use Rattle.calls.specs.declared.answer.Answer.TheVariants.{Found, Refused}
@@ -26,7 +27,7 @@ use Rattle.rules.specs.declared.records.Kind.TheVariants.{Search, Update}
 use Rattle.rules.specs.declared.records.State.TheVariants.{Open}
 use Rattle.rules.specs.declared.records.Event.TheVariants.{Read}
 use Rattle.rules.specs.declared.records.Transaction.{Transaction}
-use Rattle.rules.specs.World.{World, Outcome, check, new_transaction, is_begun, is_node, is_key, holds, node, transaction, with_transaction, is_there, wrote}
+use Rattle.rules.specs.World.{World, Outcome, check, new_transaction, is_begun, is_node, is_key, holds, node, transaction, with_transaction, wrote}
 use Rattle.rules.specs.Changes.{may, is_open, has_read, has_noted}
 use Rattle.rules.specs.Reading.{clock_after, version_passes, newest_passes, can_note, visible, read_by, read_open, read_call}
 use Rattle.rules.specs.Steps.{can_make, made_world, step, world_after}
@@ -55,7 +56,7 @@ fails b w refusal o e1 = grind (arith, nat_tests)
 refused_there : (b : Bool) (w after : World) (refusal r : Refusal) (value writer : ℕ) → (check b w refusal (Found value writer, after)).0 ≡ Refused r → b ≡ false
 refused_there b w after refusal r value writer e1 = grind (arith, nat_tests)
 
-is_none : (o : Option ℕ) → is_there o ≡ false → o ≡ None
+is_none : (o : Option ℕ) → is_some o ≡ false → o ≡ None
 is_none o e1 = grind (arith, nat_tests)
 
 -- a read that no refusal before the eleventh meets

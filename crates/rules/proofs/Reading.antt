@@ -4,6 +4,7 @@ use Rattle.std.proofs.lemmas.List.{length-set}
 use Rattle.std.proofs.lemmas.Bool.{ltb-true, leb-true, cases_Bool}
 use Rattle.std.proofs.lemmas.Bool.Decides.{not_from_Decides, nat_tests}
 use Rattle.std.proofs.lemmas.Grind.{common_steps}
+use Rattle.std.specs.Option.{is_some, unwrap_or}
 use Rattle.calls.specs.declared.answer.Answer.TheVariants.{Found}
 use Rattle.calls.specs.declared.refusal.Refusal.TheVariants.{NoSuchTransaction, NoSuchNode, NoSuchKey, KeyNotHeld, WrongState, NotYet, Overtaken, TooManyKeysRead}
 use Rattle.calls.specs.Requests.{read}
@@ -17,7 +18,7 @@ use Rattle.rules.specs.declared.records.Kind.TheVariants.{Search, Update}
 use Rattle.rules.specs.declared.records.State.TheVariants.{Open}
 use Rattle.rules.specs.declared.records.Event.TheVariants.{Read}
 use Rattle.rules.specs.declared.records.Transaction.{Transaction}
-use Rattle.rules.specs.World.{World, is_begun, is_node, is_key, holds, node, transaction, with_transaction, is_there, value_or, noted, wrote, is_write_node}
+use Rattle.rules.specs.World.{World, is_begun, is_node, is_key, holds, node, transaction, with_transaction, noted, wrote, is_write_node}
 use Rattle.rules.specs.Changes.{may, has_read, has_noted}
 use Rattle.rules.specs.Reading.{commit_clock, clock_after, version_passes, newest_passing, newest_passes, visible, can_note, read_by, read_open}
 use Rattle.rules.proofs.View.{view, placed, status_of, kind_of, transaction_of, version_of, without_last}
@@ -71,10 +72,10 @@ module _ (x : Transaction) (k writer : ℕ) (room : k < length x.noted) where
   noted_after : (j : ℕ) → noted (has_noted k writer x) j ≡ cond (k == j) true (noted x j)
   noted_after j = grind (arith, nat_tests, common_steps)
 
-  noted_writer_after : (j : ℕ) → value_or (slice_index_or (has_noted k writer x).noted j None) 0 ≡ cond (k == j) (cond (noted x k) (value_or (slice_index_or x.noted k None) 0) writer) (value_or (slice_index_or x.noted j None) 0)
+  noted_writer_after : (j : ℕ) → unwrap_or (slice_index_or (has_noted k writer x).noted j None) 0 ≡ cond (k == j) (cond (noted x k) (unwrap_or (slice_index_or x.noted k None) 0) writer) (unwrap_or (slice_index_or x.noted j None) 0)
   noted_writer_after j = grind (arith, nat_tests, common_steps)
 
-  has_noted_seen : transaction_of (has_noted k writer x) ≡ protocol.notes k (cond (noted x k) (value_or (slice_index_or x.noted k None) 0) writer) true (transaction_of x)
+  has_noted_seen : transaction_of (has_noted k writer x) ≡ protocol.notes k (cond (noted x k) (unwrap_or (slice_index_or x.noted k None) 0) writer) true (transaction_of x)
   has_noted_seen = λ i. record {
     kind = kind_of x.kind;
     status = status_of x.state;
@@ -170,7 +171,7 @@ module _ (w : World) (t k p : ℕ) (now : Invariant w) (begun : is_begun w t ≡
   updated = has_noted k (visible w reader k p).writer (has_read p (clock_after w reader p) reader)
 
   -- The writer that it has noted then.
-  note_seen : protocol.first_noted (view w) t k (visible w reader k p).writer ≡ cond (noted reader k) (value_or (slice_index_or reader.noted k None) 0) (visible w reader k p).writer
+  note_seen : protocol.first_noted (view w) t k (visible w reader k p).writer ≡ cond (noted reader k) (unwrap_or (slice_index_or reader.noted k None) 0) (visible w reader k p).writer
   note_seen = grind (arith, nat_tests)
 
   updated_seen : transaction_of updated
@@ -210,8 +211,8 @@ module _ (w : World) (t k p : ℕ) (now : Invariant w) (begun : is_begun w t ≡
       protocol.read_own t k (version value t),
       (
         status_seen w t now begun Open reader_open,
-        ap (λ (a : protocol.Transaction). a.writing.wrote k) (view_begun w t begun) ∙ ap (λ (o : Option ℕ). is_there o) e,
-        ap (λ (n : ℕ). version n t) (sym (ap (λ (a : protocol.Transaction). a.writing.value k) (view_begun w t begun) ∙ ap (λ (o : Option ℕ). value_or o 0) e)),
+        ap (λ (a : protocol.Transaction). a.writing.wrote k) (view_begun w t begun) ∙ ap (λ (o : Option ℕ). is_some o) e,
+        ap (λ (n : ℕ). version n t) (sym (ap (λ (a : protocol.Transaction). a.writing.value k) (view_begun w t begun) ∙ ap (λ (o : Option ℕ). unwrap_or o 0) e)),
       ),
       refl,
       refl,
@@ -219,7 +220,7 @@ module _ (w : World) (t k p : ℕ) (now : Invariant w) (begun : is_begun w t ≡
   }
   read_now None e =
       checked (nat_le (slot reader.clock p) (node w p).frontier) w (read t k p) NotYet _ now
-      (λ settled. read_kind (ap (λ (o : Option ℕ). is_there o) e) (leb-true (slot reader.clock p) (node w p).frontier settled) reader.kind refl)
+      (λ settled. read_kind (ap (λ (o : Option ℕ). is_some o) e) (leb-true (slot reader.clock p) (node w p).frontier settled) reader.kind refl)
 
 pub read_good : (free : FreeRule) (w : World) (t k p : ℕ) → Invariant w → GoodStep free w (read t k p)
 read_good free w t k p now =

@@ -1,5 +1,6 @@
 -- The world as the protocol of histories sees it: functions of transaction, node and key.
 use Rattle.std.proofs.Common.{◌≡◌, ℕ, cond, List, [], ◌∷◌, map, slice_index_or, None}
+use Rattle.std.specs.Option.{unwrap_or}
 use Rattle.calls.specs.declared.answer.Answer.{Answer}
 use Rattle.calls.specs.Requests.{Request}
 use Rattle.clock.specs.Clocks.{slot, marked}
@@ -14,7 +15,7 @@ use Rattle.rules.specs.declared.records.State.{State}
 use Rattle.rules.specs.declared.records.State.TheVariants.{Open, Offered, Committed, Aborted, Finished}
 use Rattle.rules.specs.declared.records.Node.{Node}
 use Rattle.rules.specs.declared.records.Transaction.{Transaction}
-use Rattle.rules.specs.World.{World, is_begun, node, transaction, bit, noted, wrote, value_or, written_value}
+use Rattle.rules.specs.World.{World, is_begun, node, transaction, bit, noted, wrote, written_value}
 use Rattle.rules.specs.Transcript as transcript
 use Rattle.rules.specs.Transcript.{Transcript, Told, told}
 
@@ -37,7 +38,7 @@ abbrev pub transaction_of : Transaction → protocol.Transaction
 transaction_of x = record {
   kind = kind_of x.kind;
   status = status_of x.state;
-  reading = record { clock = λ q. slot x.clock q; read_at = λ q. marked x.read q; noted = λ k. noted x k; noted_writer = λ k. value_or (slice_index_or x.noted k None) 0 };
+  reading = record { clock = λ q. slot x.clock q; read_at = λ q. marked x.read q; noted = λ k. noted x k; noted_writer = λ k. unwrap_or (slice_index_or x.noted k None) 0 };
   writing = record { wrote = λ k. wrote x k; value = λ k. written_value x k };
   outcome = record { refused = x.refused; vote_clock = λ q. slot x.votes q; stamp = x.stamp; commit_clock = λ q. slot x.commit q };
 }

@@ -6,6 +6,7 @@ use Rattle.std.proofs.lemmas.Nat.{or_shr}
 use Rattle.std.proofs.lemmas.Bool.{and_parts, or_cases, or_left, or_right, ltb-true, cases_Bool, cases_eq, both_ways}
 use Rattle.std.proofs.lemmas.Bool.Decides.{nat_tests}
 use Rattle.std.proofs.lemmas.Grind.{common_steps}
+use Rattle.std.specs.Option.{is_some}
 use Rattle.calls.specs.declared.answer.Answer.TheVariants.{Done, Polled}
 use Rattle.calls.specs.declared.refusal.Refusal.TheVariants.{NoSuchTransaction, NoSuchKey, WrongState, TooManyKeysWritten}
 use Rattle.calls.specs.Requests.{make, write, offer, cancel, finish}
@@ -17,7 +18,7 @@ use Rattle.rules.specs.declared.records.State.{State}
 use Rattle.rules.specs.declared.records.State.TheVariants.{Open, Offered, Aborted, Finished}
 use Rattle.rules.specs.declared.records.Event.TheVariants.{Write, Offer, Cancel, Finish}
 use Rattle.rules.specs.declared.records.Transaction.{Transaction}
-use Rattle.rules.specs.World.{World, is_begun, is_key, holds, transaction, with_transaction, bit, is_there, noted, wrote, how_many, is_write_node}
+use Rattle.rules.specs.World.{World, is_begun, is_key, holds, transaction, with_transaction, bit, noted, wrote, how_many, is_write_node}
 use Rattle.rules.specs.Changes.{may, is_open, is_offered, is_update, is_search, becomes, has_written, is_now_offered}
 use Rattle.rules.specs.Deciding.{polled_byte, nodes_of}
 use Rattle.rules.proofs.View.{view, status_of, kind_of, transaction_of}
@@ -95,7 +96,7 @@ finish_good free w t now =
 -- ── A write ──
 
 -- A row of options with one place filled.
-pub there_set : (row : List (Option ℕ)) (k j value : ℕ) → k < length row → is_there (slice_index_or (slice_set row k (Some value)) j None) ≡ cond (k == j) true (is_there (slice_index_or row j None))
+pub there_set : (row : List (Option ℕ)) (k j value : ℕ) → k < length row → is_some (slice_index_or (slice_set row k (Some value)) j None) ≡ cond (k == j) true (is_some (slice_index_or row j None))
 there_set row k j value l = grind (arith, nat_tests, common_steps)
 
 module _ (w : World) (x : Transaction) (k value : ℕ) (key : k < length w.placement) (room : k < length x.written) (open_now : x.state ≡ Open) (fit : Fits w x) where

@@ -17,10 +17,10 @@ use Rattle.rules.specs.Voting.{counted}
 
 -- A node that releases a committed update takes the update's commit clock into its seen clock.
 abbrev pub has_seen : List ℕ → Node → Node
-has_seen commit n = record { counter = n.counter; frontier = n.frontier; seen = join n.seen commit }
+has_seen commit n = record n { seen = join n.seen commit }
 
 abbrev pub advanced : ℕ → Node → Node
-advanced stamp n = record { counter = n.counter; frontier = stamp; seen = n.seen }
+advanced stamp n = record n { frontier = stamp }
 
 -- A commit is learned. At a write node t's number becomes its stamp, and the counter rises to at least that; another node releases t.
 abbrev pub learn_commit : World → ℕ → ℕ → Transaction → Bool → World

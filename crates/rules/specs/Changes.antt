@@ -56,252 +56,48 @@ may event x = allowed event x.kind x.state
 
 -- Its state changes.
 abbrev pub becomes : State → Transaction → Transaction
-becomes state x = record {
-  kind = x.kind;
-  state = state;
-  clock = x.clock;
-  read = x.read;
-  noted = x.noted;
-  written = x.written;
-  polled = x.polled;
-  voted = x.voted;
-  refused = x.refused;
-  engaged = x.engaged;
-  numbers = x.numbers;
-  votes = x.votes;
-  learned = x.learned;
-  applied = x.applied;
-  stamp = x.stamp;
-  commit = x.commit;
-}
+becomes state x = record x { state = state }
 
 -- It has read at p, with this clock after.
 abbrev pub has_read : ℕ → List ℕ → Transaction → Transaction
-has_read p clock x = record {
-  kind = x.kind;
-  state = x.state;
-  clock = clock;
-  read = slice_set x.read p true;
-  noted = x.noted;
-  written = x.written;
-  polled = x.polled;
-  voted = x.voted;
-  refused = x.refused;
-  engaged = x.engaged;
-  numbers = x.numbers;
-  votes = x.votes;
-  learned = x.learned;
-  applied = x.applied;
-  stamp = x.stamp;
-  commit = x.commit;
-}
+has_read p clock x = record x { clock = clock; read = slice_set x.read p true }
 
 -- An update has read k from a version by this writer. It notes the writer once a key.
 abbrev pub has_noted : ℕ → ℕ → Transaction → Transaction
-has_noted k writer x = record {
-  kind = x.kind;
-  state = x.state;
-  clock = x.clock;
-  read = x.read;
-  noted = cond (noted x k) x.noted (slice_set x.noted k (Some writer));
-  written = x.written;
-  polled = x.polled;
-  voted = x.voted;
-  refused = x.refused;
-  engaged = x.engaged;
-  numbers = x.numbers;
-  votes = x.votes;
-  learned = x.learned;
-  applied = x.applied;
-  stamp = x.stamp;
-  commit = x.commit;
-}
+has_noted k writer x = record x { noted = cond (noted x k) x.noted (slice_set x.noted k (Some writer)) }
 
 -- It holds this value for k, in place of an earlier one.
 abbrev pub has_written : ℕ → ℕ → Transaction → Transaction
-has_written k value x = record {
-  kind = x.kind;
-  state = x.state;
-  clock = x.clock;
-  read = x.read;
-  noted = x.noted;
-  written = slice_set x.written k (Some value);
-  polled = x.polled;
-  voted = x.voted;
-  refused = x.refused;
-  engaged = x.engaged;
-  numbers = x.numbers;
-  votes = x.votes;
-  learned = x.learned;
-  applied = x.applied;
-  stamp = x.stamp;
-  commit = x.commit;
-}
+has_written k value x = record x { written = slice_set x.written k (Some value) }
 
 -- It is offered, and polls the nodes of this byte.
 abbrev pub is_now_offered : ℕ → Transaction → Transaction
-is_now_offered polled x = record {
-  kind = x.kind;
-  state = Offered;
-  clock = x.clock;
-  read = x.read;
-  noted = x.noted;
-  written = x.written;
-  polled = polled;
-  voted = x.voted;
-  refused = x.refused;
-  engaged = x.engaged;
-  numbers = x.numbers;
-  votes = x.votes;
-  learned = x.learned;
-  applied = x.applied;
-  stamp = x.stamp;
-  commit = x.commit;
-}
+is_now_offered polled x = record x { state = Offered; polled = polled }
 
 -- Node p has voted no.
 abbrev pub has_no : ℕ → Transaction → Transaction
-has_no p x = record {
-  kind = x.kind;
-  state = x.state;
-  clock = x.clock;
-  read = x.read;
-  noted = x.noted;
-  written = x.written;
-  polled = x.polled;
-  voted = slice_set x.voted p true;
-  refused = true;
-  engaged = x.engaged;
-  numbers = x.numbers;
-  votes = x.votes;
-  learned = x.learned;
-  applied = x.applied;
-  stamp = x.stamp;
-  commit = x.commit;
-}
+has_no p x = record x { voted = slice_set x.voted p true; refused = true }
 
 -- Node p has voted yes; its vote carries its seen clock.
 abbrev pub has_yes : ℕ → List ℕ → Transaction → Transaction
-has_yes p seen x = record {
-  kind = x.kind;
-  state = x.state;
-  clock = x.clock;
-  read = x.read;
-  noted = x.noted;
-  written = x.written;
-  polled = x.polled;
-  voted = slice_set x.voted p true;
-  refused = x.refused;
-  engaged = slice_set x.engaged p true;
-  numbers = x.numbers;
-  votes = join x.votes seen;
-  learned = x.learned;
-  applied = x.applied;
-  stamp = x.stamp;
-  commit = x.commit;
-}
+has_yes p seen x = record x { voted = slice_set x.voted p true; engaged = slice_set x.engaged p true; votes = join x.votes seen }
 
 -- Its number at p.
 abbrev pub is_numbered : ℕ → ℕ → Transaction → Transaction
-is_numbered p number x = record {
-  kind = x.kind;
-  state = x.state;
-  clock = x.clock;
-  read = x.read;
-  noted = x.noted;
-  written = x.written;
-  polled = x.polled;
-  voted = x.voted;
-  refused = x.refused;
-  engaged = x.engaged;
-  numbers = slice_set x.numbers p number;
-  votes = x.votes;
-  learned = x.learned;
-  applied = x.applied;
-  stamp = x.stamp;
-  commit = x.commit;
-}
+is_numbered p number x = record x { numbers = slice_set x.numbers p number }
 
 -- It is committed, with this stamp and this commit clock.
 abbrev pub is_committed : ℕ → List ℕ → Transaction → Transaction
-is_committed stamp commit x = record {
-  kind = x.kind;
-  state = Committed;
-  clock = x.clock;
-  read = x.read;
-  noted = x.noted;
-  written = x.written;
-  polled = x.polled;
-  voted = x.voted;
-  refused = x.refused;
-  engaged = x.engaged;
-  numbers = x.numbers;
-  votes = x.votes;
-  learned = x.learned;
-  applied = x.applied;
-  stamp = stamp;
-  commit = commit;
-}
+is_committed stamp commit x = record x { state = Committed; stamp = stamp; commit = commit }
 
 -- Node p has learned its decision.
 abbrev pub is_learned : ℕ → Transaction → Transaction
-is_learned p x = record {
-  kind = x.kind;
-  state = x.state;
-  clock = x.clock;
-  read = x.read;
-  noted = x.noted;
-  written = x.written;
-  polled = x.polled;
-  voted = x.voted;
-  refused = x.refused;
-  engaged = x.engaged;
-  numbers = x.numbers;
-  votes = x.votes;
-  learned = slice_set x.learned p true;
-  applied = x.applied;
-  stamp = x.stamp;
-  commit = x.commit;
-}
+is_learned p x = record x { learned = slice_set x.learned p true }
 
 -- Node p has released it.
 abbrev pub is_released : ℕ → Transaction → Transaction
-is_released p x = record {
-  kind = x.kind;
-  state = x.state;
-  clock = x.clock;
-  read = x.read;
-  noted = x.noted;
-  written = x.written;
-  polled = x.polled;
-  voted = x.voted;
-  refused = x.refused;
-  engaged = slice_set x.engaged p false;
-  numbers = x.numbers;
-  votes = x.votes;
-  learned = x.learned;
-  applied = x.applied;
-  stamp = x.stamp;
-  commit = x.commit;
-}
+is_released p x = record x { engaged = slice_set x.engaged p false }
 
 -- Node p has applied it.
 abbrev pub is_applied : ℕ → Transaction → Transaction
-is_applied p x = record {
-  kind = x.kind;
-  state = x.state;
-  clock = x.clock;
-  read = x.read;
-  noted = x.noted;
-  written = x.written;
-  polled = x.polled;
-  voted = x.voted;
-  refused = x.refused;
-  engaged = x.engaged;
-  numbers = x.numbers;
-  votes = x.votes;
-  learned = x.learned;
-  applied = slice_set x.applied p true;
-  stamp = x.stamp;
-  commit = x.commit;
-}
+is_applied p x = record x { applied = slice_set x.applied p true }

@@ -17,7 +17,7 @@ abbrev pub begin_call : World → Kind → Outcome
 begin_call w kind =
     check (nat_lt (length w.transactions) 255) w NumbersUsedUp (
       Begun (length w.transactions + 1),
-      record { nodes = w.nodes; transactions = w.transactions ++ new_transaction kind ∷ []; placement = w.placement; store = w.store },
+      record w { transactions = w.transactions ++ new_transaction kind ∷ [] },
     )
 
 -- The byte of all holders of the keys that a transaction noted or wrote.

@@ -24,10 +24,6 @@ can_make nodes keys placement =
 abbrev pub made_world : ℕ → List ℕ → World
 made_world nodes placement = record { nodes = replicate nodes new_node; transactions = []; placement = placement; store = fresh }
 
--- A make gives a world, or is refused.
-abbrev pub make_world : ℕ → ℕ → List ℕ → Option World
-make_world nodes keys placement = cond (can_make nodes keys placement) (Some (made_world nodes placement)) None
-
 -- The mode of a begin is 0 for a search and 1 for an update. There is no other.
 abbrev pub begin_mode : World → ℕ → Outcome
 begin_mode w zero = begin_call w Search

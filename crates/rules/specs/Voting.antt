@@ -1,5 +1,6 @@
 -- The vote of a node on an offered update.
 use Rattle.std.specs.Prelude.{ℕ, zero, suc, ◌+◌, Bool, true, false, cond, not, ◌&&◌, ◌||◌, List, [], ◌∷◌, length, Some, None, Ok, Err, Option, Result, ◌==◌, slice_index_or}
+use Rattle.std.specs.Option.{unwrap_or}
 use Rattle.calls.specs.declared.answer.Answer.TheVariants.{Yes, NoOvertaken, NoPlace}
 use Rattle.calls.specs.declared.refusal.Refusal.TheVariants.{NoSuchTransaction, NoSuchNode, WrongState, NotPolled, AlreadyDone, Busy}
 use Rattle.clock.specs.Clocks.{marked}
@@ -10,7 +11,7 @@ use Rattle.store.specs.Batch.{all_aside, first_refused}
 use Rattle.rules.specs.declared.records.Node.{Node}
 use Rattle.rules.specs.declared.records.Event.TheVariants.{Prepare}
 use Rattle.rules.specs.declared.records.Transaction.{Transaction}
-use Rattle.rules.specs.World.{World, Outcome, check, is_begun, is_node, holds, node, transaction, with_node, with_transaction, with_store, bit, some_below, noted, wrote, value_or, written_at, is_write_node}
+use Rattle.rules.specs.World.{World, Outcome, check, is_begun, is_node, holds, node, transaction, with_node, with_transaction, with_store, bit, some_below, noted, wrote, written_at, is_write_node}
 use Rattle.rules.specs.Changes.{may, has_no, has_yes, is_numbered}
 
 -- Two updates conflict at a key that node p holds: the other writes it and this one notes or writes it, or the other notes it and this one
@@ -32,7 +33,7 @@ newest_writer (v ∷ older) = v.writer
 
 -- A noted key that p holds is overtaken: its newest version there is by another writer than the one noted.
 abbrev pub overtaken_at : World → Transaction → ℕ → ℕ → Bool
-overtaken_at w x p k = holds w p k && (noted x k && not (newest_writer (w.store p k).versions == value_or (slice_index_or x.noted k None) 0))
+overtaken_at w x p k = holds w p k && (noted x k && not (newest_writer (w.store p k).versions == unwrap_or (slice_index_or x.noted k None) 0))
 
 -- Of so many keys from k on, the lowest that passes a test.
 abbrev pub lowest_from : ℕ → ℕ → (ℕ → Bool) → Option ℕ
@@ -43,7 +44,7 @@ unfoldable pub overtaken_key : World → Transaction → ℕ → Option ℕ
 overtaken_key w x p = lowest_from 64 0 (overtaken_at w x p)
 
 abbrev pub counted : ℕ → Node → Node
-counted number n = record { counter = number; frontier = n.frontier; seen = n.seen }
+counted number n = record n { counter = number }
 
 -- A yes. At a write node the counter becomes the next number for t, which is t's number there and the answer; elsewhere the answer is 0.
 abbrev pub yes : World → ℕ → ℕ → Transaction → Meaning → Bool → Outcome

@@ -1,6 +1,7 @@
 -- Everything that a catalogue knows.
 use Rattle.std.specs.Prelude.{ℕ, zero, suc, ◌-◌, ◌/◌, ◌%◌, ◌^◌, Bool, true, false, cond, ◌&&◌, ◌||◌, List, [], ◌∷◌, length, replicate, Some, None, filter, Option, ◌==◌, nat_le, nat_lt, slice_index, slice_index_or, slice_set}
 use Rattle.std.specs.List.{range_with_len}
+use Rattle.std.specs.Option.{is_some, unwrap_or}
 use Rattle.calls.specs.declared.answer.Answer.{Answer}
 use Rattle.calls.specs.declared.answer.Answer.TheVariants.{Refused}
 use Rattle.calls.specs.declared.refusal.Refusal.{Refusal}
@@ -77,13 +78,13 @@ abbrev pub transaction : World → ℕ → Transaction
 transaction w t = slice_index_or w.transactions (t - 1) (new_transaction Search)
 
 abbrev pub with_node : World → ℕ → Node → World
-with_node w p n = record { nodes = slice_set w.nodes p n; transactions = w.transactions; placement = w.placement; store = w.store }
+with_node w p n = record w { nodes = slice_set w.nodes p n }
 
 abbrev pub with_transaction : World → ℕ → Transaction → World
-with_transaction w t x = record { nodes = w.nodes; transactions = slice_set w.transactions (t - 1) x; placement = w.placement; store = w.store }
+with_transaction w t x = record w { transactions = slice_set w.transactions (t - 1) x }
 
 abbrev pub with_store : World → Meaning → World
-with_store w m = record { nodes = w.nodes; transactions = w.transactions; placement = w.placement; store = m }
+with_store w m = record w { store = m }
 
 -- Bit h of a byte.
 abbrev pub bit : ℕ → ℕ → Bool
@@ -102,23 +103,15 @@ abbrev pub all_below : ℕ → (ℕ → Bool) → Bool
 all_below zero test = true
 all_below (suc n) test = test n && all_below n test
 
-abbrev pub is_there : {X : Type 0} → Option X → Bool
-is_there None = false
-is_there (Some x) = true
-
-abbrev pub value_or : {X : Type 0} → Option X → X → X
-value_or None d = d
-value_or (Some x) d = x
-
 -- An update has noted a key, or written it.
 abbrev pub noted : Transaction → ℕ → Bool
-noted x k = is_there (slice_index_or x.noted k None)
+noted x k = is_some (slice_index_or x.noted k None)
 
 abbrev pub wrote : Transaction → ℕ → Bool
-wrote x k = is_there (slice_index_or x.written k None)
+wrote x k = is_some (slice_index_or x.written k None)
 
 abbrev pub written_value : Transaction → ℕ → ℕ
-written_value x k = value_or (slice_index_or x.written k None) 0
+written_value x k = unwrap_or (slice_index_or x.written k None) 0
 
 -- How many keys of a row are there.
 abbrev pub how_many : {X : Type 0} → List (Option X) → ℕ

@@ -4,6 +4,7 @@
 ghost use Rattle.rules.specs.Cases.{CasesHold};
 ghost use Rattle.rules.specs.Promises.{PromisesKept};
 
+pub mod nodes;
 pub mod records;
 
 /// The cases that were worked out by hand from the rules come out so: every row of the table in `specs/Cases.antt`.

@@ -13,7 +13,7 @@ ghost use Rattle.records.specs.Bounds.{ClockWithin};
 use calls::sizes::{NodeNumber, Stamp, TransactionNumber};
 use clock::{Clock, join, stamp};
 use keys::writing::write_nodes;
-use records::votes::names;
+use rules::nodes::names;
 use rules::records::{State, Transaction};
 use std::array::from_fn;
 

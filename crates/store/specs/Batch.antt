@@ -10,12 +10,12 @@ asked (j ∷ js) k = cond (j == k) (1 + asked js k) (asked js k)
 -- The places that the keys ask for are set aside at their node; all else is as it was.
 abbrev pub all_aside : Meaning → ℕ → List ℕ → Meaning
 all_aside m node keys =
-    λ n k. cond (n == node && in_range n k) (record { versions = (m n k).versions; aside = (m n k).aside + asked keys k }) (m n k)
+    λ n k. cond (n == node && in_range n k) (record (m n k) { aside = (m n k).aside + asked keys k }) (m n k)
 
 -- The places that the keys ask for are given back at their node, as far as they are set aside there; all else is as it was.
 abbrev pub all_back : Meaning → ℕ → List ℕ → Meaning
 all_back m node keys =
-    λ n k. cond (n == node && in_range n k) (record { versions = (m n k).versions; aside = (m n k).aside - asked keys k }) (m n k)
+    λ n k. cond (n == node && in_range n k) (record (m n k) { aside = (m n k).aside - asked keys k }) (m n k)
 
 -- The first key for which no place is left after those before it in the list.
 unfoldable pub first_refused : FreeRule → Meaning → ℕ → List ℕ → Result (Unit {0}) ℕ

@@ -55,7 +55,7 @@ abbrev pub aside_granted : FreeRule → Meaning → ℕ → ℕ → Bool
 aside_granted free m n k = in_range n k && nat_lt 0 (free m n k)
 
 abbrev pub one_aside : Chain → Chain
-one_aside c = record { versions = c.versions; aside = c.aside + 1 }
+one_aside c = record c { aside = c.aside + 1 }
 
 abbrev pub aside_after : FreeRule → Meaning → ℕ → ℕ → Meaning
 aside_after free m n k = cond (aside_granted free m n k) (with_chain m n k (one_aside (m n k))) m
@@ -65,7 +65,7 @@ abbrev pub aside_there : Meaning → ℕ → ℕ → Bool
 aside_there m n k = in_range n k && nat_lt 0 (m n k).aside
 
 abbrev pub one_back : Chain → Chain
-one_back c = record { versions = c.versions; aside = c.aside - 1 }
+one_back c = record c { aside = c.aside - 1 }
 
 abbrev pub back_after : Meaning → ℕ → ℕ → Meaning
 back_after m n k = cond (aside_there m n k) (with_chain m n k (one_back (m n k))) m

@@ -18,13 +18,11 @@ impl<S: VersionStore> Catalogue<S> {
         ensures step { (begun result, world S.meaning self.new) ≡ begin_call (world S.meaning self.old) kind }
         ensures rule { S.free self.new.store ≡ S.free self.old.store }
     {
-        let before = self.table.begun();
-        if before >= 255 {
-            return Err(Refusal::NumbersUsedUp);
-        }
+        let t = TransactionNumber::try_from(self.table.begun() + 1).map_err(
+            |_| Refusal::NumbersUsedUp,
+        )?;
         self.table.begin(kind);
-        // At most 255, by the test above.
-        Ok((before + 1) as TransactionNumber)
+        Ok(t)
     }
 
     // `cancel` and `finish` differ in two constants; one function under both would need a contract longer than their bodies.

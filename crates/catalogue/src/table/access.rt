@@ -37,8 +37,7 @@ impl Table {
             frontier: 0,
             seen: [0; 8],
         };
-        let mut nodes = Vec::new(heap);
-        nodes.resize(usize::from(count), node)?;
+        let nodes = vec![in heap; node; usize::from(count)]?;
         let transactions = Vec::with_capacity(heap, 255)?;
         let placement = Vec::from_slice(heap, placement)?;
         Ok(Table {

@@ -1,6 +1,6 @@
-use Rattle.std.proofs.Common.{◌≡◌, length, take}
+use Rattle.std.proofs.Common.{◌≡◌}
 use Rattle.keys.proofs.written.written_keys.Given as goal
 
 -- The keys so far are collected.
 abbrev pub invariant-loop-k : goal.invariant-loop-k
-invariant-loop-k l = (length l.row ≡ 64) × (l.count ≡ length l.yielded) × (take l.count l.row ≡ l.yielded)
+invariant-loop-k l = l.found.items ≡ l.yielded
