@@ -1,5 +1,6 @@
 -- Records that are handed about beside the tables that hold them.
-use Rattle.std.specs.Prelude.{◌≡◌, ℕ, ◌<◌, true}
+use Rattle.std.specs.Prelude.{◌≡◌, ℕ, ◌<◌, true, Ok, Err, Result}
+use Rattle.calls.specs.declared.refusal.Refusal.{Refusal}
 use Rattle.store.specs.Model.{fresh}
 use Rattle.rules.specs.declared.records.Node.{Node}
 use Rattle.rules.specs.declared.records.Transaction.{Transaction}
@@ -16,3 +17,8 @@ pub record Recorded (table : Table) (t : ℕ) (x : Transaction) : Type 0 where
 pub record NodeRecorded (table : Table) (p : ℕ) (n : Node) : Type 0 where
   pub small : p < 8
   pub record_is : n ≡ node (world_of table fresh) p
+
+-- The record that a result lends, or why there is none.
+abbrev pub lent : {R : Type 0} → (R → Transaction) → Result R Refusal → Result Transaction Refusal
+lent now (Ok x) = Ok (now x)
+lent now (Err refusal) = Err refusal

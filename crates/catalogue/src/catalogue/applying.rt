@@ -24,7 +24,7 @@ impl<S: VersionStore> Catalogue<S> {
     {
         let n = self.table.node(p)?;
         let t = self.table.least_waiting(p).ok_or(Refusal::NothingToApply)?;
-        let x = self.table.record(t);
+        let x = *self.table.record(t);
         if !x.learned[usize::from(p)] {
             return Err(Refusal::NotLearned);
         }

@@ -27,12 +27,14 @@ impl<S: VersionStore> Catalogue<S> {
     {
         let x = self.table.asked(t, Event::Decide)?;
         if x.refused {
-            self.table.update(t, ended(x, State::Aborted));
+            let y = ended(*x, State::Aborted);
+            self.table.update(t, y);
             return Ok(Decision::Aborted);
         }
-        if !all_voted(&x) {
+        if !all_voted(x) {
             return Err(Refusal::VotesOutstanding);
         }
+        let x = *x;
         let stamp = self.commit(t, x);
         Ok(Decision::Committed { stamp })
     }

@@ -23,6 +23,7 @@ impl<S: VersionStore> Catalogue<S> {
         ensures rule { S.free self.new.store ≡ S.free self.old.store }
     {
         let (x, n) = self.table.learnable(t, p)?;
+        let x = *x;
         match x.state {
             State::Committed => self.learn_commit(t, p, x, n),
             State::Aborted => self.learn_abort(t, p, x),

@@ -54,16 +54,17 @@ impl<S: VersionStore> Catalogue<S> {
     {
         let x = self.table.transaction(t)?;
         let n = self.table.node(p)?;
-        allow(&x, Event::Prepare)?;
-        if !is_polled(&x, p) {
+        allow(x, Event::Prepare)?;
+        if !is_polled(x, p) {
             return Err(Refusal::NotPolled);
         }
         if x.voted[usize::from(p)] {
             return Err(Refusal::AlreadyDone);
         }
-        if self.table.is_busy(t, &x, p) {
+        if self.table.is_busy(t, x, p) {
             return Err(Refusal::Busy);
         }
+        let x = *x;
         Ok(self.vote(t, x, p, n))
     }
 }

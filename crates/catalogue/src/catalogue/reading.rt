@@ -35,6 +35,7 @@ impl<S: VersionStore> Catalogue<S> {
         if x.clock[usize::from(p)] > n.frontier {
             return Err(Refusal::NotYet);
         }
+        let x = *x;
         self.read_stored(t, k, p, x)
     }
 

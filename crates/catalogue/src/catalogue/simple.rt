@@ -32,7 +32,7 @@ impl<S: VersionStore> Catalogue<S> {
         ensures step { (done result, world S.meaning self.new) ≡ cancel_call (world S.meaning self.old) t }
         ensures rule { S.free self.new.store ≡ S.free self.old.store }
     {
-        let x = self.table.asked(t, Event::Cancel)?;
+        let x = *self.table.asked(t, Event::Cancel)?;
         self.table.update(t, ended(x, State::Aborted));
         Ok(())
     }
@@ -42,7 +42,7 @@ impl<S: VersionStore> Catalogue<S> {
         ensures step { (done result, world S.meaning self.new) ≡ finish_call (world S.meaning self.old) t }
         ensures rule { S.free self.new.store ≡ S.free self.old.store }
     {
-        let x = self.table.asked(t, Event::Finish)?;
+        let x = *self.table.asked(t, Event::Finish)?;
         self.table.update(t, ended(x, State::Finished));
         Ok(())
     }

@@ -30,7 +30,7 @@ impl<S: VersionStore> Catalogue<S> {
         ensures value { (done result, world S.meaning self.new) ≡ write_call (world S.meaning self.old) t k value }
         ensures rule { S.free self.new.store ≡ S.free self.old.store }
     {
-        let x = self.table.writable(t, k)?;
+        let x = *self.table.writable(t, k)?;
         let written = with_write(x, k, value)?;
         self.table.update(t, written);
         Ok(())
@@ -41,7 +41,7 @@ impl<S: VersionStore> Catalogue<S> {
         ensures value { (polled result, world S.meaning self.new) ≡ offer_call (world S.meaning self.old) t }
         ensures rule { S.free self.new.store ≡ S.free self.old.store }
     {
-        let x = self.table.asked(t, Event::Offer)?;
+        let x = *self.table.asked(t, Event::Offer)?;
         Ok(self.poll(t, x))
     }
 

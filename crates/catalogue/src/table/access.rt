@@ -11,7 +11,7 @@ ghost use Rattle.rules.specs.Applying.{learn_by, learn_call};
 ghost use Rattle.rules.specs.Steps.{can_make, made_world};
 ghost use Rattle.records.specs.Bounds.{is_committed, for_undecided, raised_by, most, TransactionWithin, NodeWithin, Keeps, Raises};
 ghost use Rattle.catalogue.specs.Tables.{world_of};
-ghost use Rattle.catalogue.specs.Recorded.{NodeRecorded, Recorded};
+ghost use Rattle.catalogue.specs.Recorded.{NodeRecorded, Recorded, lent};
 ghost use Rattle.catalogue.specs.Replacing.{NodeReplaced, TransactionReplaced};
 
 use super::Table;
@@ -48,26 +48,23 @@ impl Table {
     }
 
     /// The record of a transaction.
-    pub(crate) fn transaction(&self, t: TransactionNumber) -> Result<Transaction, Refusal>
-        ensures value { result ≡ (if is_begun (world_of self.now fresh) t then Ok (transaction (world_of self.now fresh) t) else Err NoSuchTransaction) }
-        ensures within { IfOk result (λ x. TransactionWithin (most self.now.transactions.items) x) }
+    pub(crate) fn transaction(&self, t: TransactionNumber) -> Result<&Transaction, Refusal>
+        ensures value { lent (λ x. x.now) result ≡ (if is_begun (world_of self.now fresh) t then Ok (transaction (world_of self.now fresh) t) else Err NoSuchTransaction) }
+        ensures within { IfOk result (λ x. TransactionWithin (most self.now.transactions.items) x.now) }
     {
         let i = usize::from(t)
             .checked_sub(1)
             .ok_or(Refusal::NoSuchTransaction)?;
-        self.transactions
-            .get(i)
-            .copied()
-            .ok_or(Refusal::NoSuchTransaction)
+        self.transactions.get(i).ok_or(Refusal::NoSuchTransaction)
     }
 
     /// The record of a transaction that is in the state that an event needs.
-    pub(crate) fn asked(&self, t: TransactionNumber, event: Event) -> Result<Transaction, Refusal>
-        ensures value { result ≡ (if is_begun (world_of self.now fresh) t then (if may event (transaction (world_of self.now fresh) t) then Ok (transaction (world_of self.now fresh) t) else Err WrongState) else Err NoSuchTransaction) }
-        ensures undecided { IfOk result (λ x. for_undecided event ≡ true → is_committed x.state ≡ false) }
+    pub(crate) fn asked(&self, t: TransactionNumber, event: Event) -> Result<&Transaction, Refusal>
+        ensures value { lent (λ x. x.now) result ≡ (if is_begun (world_of self.now fresh) t then (if may event (transaction (world_of self.now fresh) t) then Ok (transaction (world_of self.now fresh) t) else Err WrongState) else Err NoSuchTransaction) }
+        ensures undecided { IfOk result (λ x. for_undecided event ≡ true → is_committed x.now.state ≡ false) }
     {
         let x = self.transaction(t)?;
-        allow(&x, event)?;
+        allow(x, event)?;
         Ok(x)
     }
 
@@ -77,9 +74,9 @@ impl Table {
         t: TransactionNumber,
         k: KeyNumber,
         p: NodeNumber,
-    ) -> Result<(Transaction, Node), Refusal>
-        ensures call { MatchResult result (λ o. (m : Meaning) → read_call (world_of self.now m) t k p ≡ read_open (world_of self.now m) t k p o.0 (slice_index_or o.0.written k None)) (λ e. (m : Meaning) → read_call (world_of self.now m) t k p ≡ refuse (world_of self.now m) e) }
-        ensures known { IfOk result (λ o. Recorded self.now t o.0 × NodeRecorded self.now p o.1 × (k < 64) × TransactionWithin (most self.now.transactions.items) o.0) }
+    ) -> Result<(&Transaction, Node), Refusal>
+        ensures call { MatchResult result (λ o. (m : Meaning) → read_call (world_of self.now m) t k p ≡ read_open (world_of self.now m) t k p o.0.now (slice_index_or o.0.now.written k None)) (λ e. (m : Meaning) → read_call (world_of self.now m) t k p ≡ refuse (world_of self.now m) e) }
+        ensures known { IfOk result (λ o. Recorded self.now t o.0.now × NodeRecorded self.now p o.1 × (k < 64) × TransactionWithin (most self.now.transactions.items) o.0.now) }
     {
         let x = self.transaction(t)?;
         let n = self.node(p)?;
@@ -89,7 +86,7 @@ impl Table {
         if !self.holds(p, k) {
             return Err(Refusal::KeyNotHeld);
         }
-        allow(&x, Event::Read)?;
+        allow(x, Event::Read)?;
         Ok((x, n))
     }
 
@@ -98,15 +95,15 @@ impl Table {
         &self,
         t: TransactionNumber,
         k: KeyNumber,
-    ) -> Result<Transaction, Refusal>
-        ensures call { MatchResult result (λ x. (m : Meaning) (value : ℕ) → write_call (world_of self.now m) t k value ≡ check (wrote x k || nat_lt (how_many x.written) 8) (world_of self.now m) TooManyKeysWritten (Done, with_transaction (world_of self.now m) t (has_written k value x))) (λ e. (m : Meaning) (value : ℕ) → write_call (world_of self.now m) t k value ≡ refuse (world_of self.now m) e) }
-        ensures known { IfOk result (λ x. Recorded self.now t x) }
+    ) -> Result<&Transaction, Refusal>
+        ensures call { MatchResult result (λ x. (m : Meaning) (value : ℕ) → write_call (world_of self.now m) t k value ≡ check (wrote x.now k || nat_lt (how_many x.now.written) 8) (world_of self.now m) TooManyKeysWritten (Done, with_transaction (world_of self.now m) t (has_written k value x.now))) (λ e. (m : Meaning) (value : ℕ) → write_call (world_of self.now m) t k value ≡ refuse (world_of self.now m) e) }
+        ensures known { IfOk result (λ x. Recorded self.now t x.now) }
     {
         let x = self.transaction(t)?;
         if !self.has_key(k) {
             return Err(Refusal::NoSuchKey);
         }
-        allow(&x, Event::Write)?;
+        allow(x, Event::Write)?;
         Ok(x)
     }
 
@@ -115,14 +112,14 @@ impl Table {
         &self,
         t: TransactionNumber,
         p: NodeNumber,
-    ) -> Result<(Transaction, Node), Refusal>
-        ensures call { MatchResult result (λ o. (m : Meaning) → learn_call (world_of self.now m) t p ≡ learn_by (world_of self.now m) t p o.0 o.0.state) (λ e. (m : Meaning) → learn_call (world_of self.now m) t p ≡ refuse (world_of self.now m) e) }
-        ensures known { IfOk result (λ o. Recorded self.now t o.0 × NodeRecorded self.now p o.1) }
+    ) -> Result<(&Transaction, Node), Refusal>
+        ensures call { MatchResult result (λ o. (m : Meaning) → learn_call (world_of self.now m) t p ≡ learn_by (world_of self.now m) t p o.0.now o.0.now.state) (λ e. (m : Meaning) → learn_call (world_of self.now m) t p ≡ refuse (world_of self.now m) e) }
+        ensures known { IfOk result (λ o. Recorded self.now t o.0.now × NodeRecorded self.now p o.1) }
     {
         let x = self.transaction(t)?;
         let n = self.node(p)?;
-        allow(&x, Event::Learn)?;
-        if !is_polled(&x, p) {
+        allow(x, Event::Learn)?;
+        if !is_polled(x, p) {
             return Err(Refusal::NotPolled);
         }
         if is_marked(&x.learned, p) {
@@ -134,12 +131,12 @@ impl Table {
     // That a number is begun is one word in the contracts below: it is said of a number and a table, so that no type of number could keep it.
 
     /// The record of a transaction that is begun.
-    pub(crate) fn record(&self, t: TransactionNumber) -> Transaction
+    pub(crate) fn record(&self, t: TransactionNumber) -> &Transaction
         requires { is_begun (world_of self.now fresh) t ≡ true }
-        ensures value { result ≡ transaction (world_of self.now fresh) t }
-        ensures within { TransactionWithin (most self.now.transactions.items) result }
+        ensures value { result.now ≡ transaction (world_of self.now fresh) t }
+        ensures within { TransactionWithin (most self.now.transactions.items) result.now }
     {
-        self.transactions[usize::from(t) - 1]
+        &self.transactions[usize::from(t) - 1]
     }
 
     /// How many transactions are begun.
