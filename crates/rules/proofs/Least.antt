@@ -116,10 +116,15 @@ module _ (w : World) (p : ℕ) where
       (passed_by n a away (fold (sooner w p) None (range_with_len (a + 1) n)) (from_none n (a + 1))))
       (cases_Bool (waits w p a))
 
-  -- The update that apply takes waits, and none that waits has a lower number; where it takes none, none waits.
+  -- The update that apply takes waits, and none that waits has a lower number.
   pub least_waiting_is : (t : ℕ) → least_waiting w p ≡ Some t → (waits w p t ≡ true) × (1 ≤ t) × (t < 1 + length w.transactions) × SoonerThan 1 (length w.transactions) t
   unfolding least_waiting
   least_waiting_is t e = subst (FromNone 1 (length w.transactions)) e (from_none (length w.transactions) 1)
+
+  -- Where it takes none, none waits.
+  pub none_waiting : least_waiting w p ≡ None → (u : ℕ) → 1 ≤ u → u < 1 + length w.transactions → waits w p u ≡ false
+  unfolding least_waiting
+  none_waiting e = subst (FromNone 1 (length w.transactions)) e (from_none (length w.transactions) 1)
 
 -- The lowest key of a stretch that passes a test.
 pub lowest_passes : (n a : ℕ) (test : ℕ → Bool) (k : ℕ) → lowest_from n a test ≡ Some k → (test k ≡ true) × ((j : ℕ) → a ≤ j → j < k → test j ≡ false)
