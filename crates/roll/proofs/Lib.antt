@@ -1,1 +1,2 @@
+pub mod Links
 pub mod Walk

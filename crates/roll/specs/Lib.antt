@@ -1,5 +1,6 @@
 pub mod Totals
 pub mod Entries
+pub mod Links
 pub mod Table
 pub mod Moves
 pub mod Entering

@@ -1,4 +1,4 @@
-// One entry of the roll: a version, and the chain that it belongs to.
+// One entry of the roll: a version, the chain that it belongs to, and where the next older entry of that chain stands.
 use store::Version;
 
 #[derive(Clone, Copy)]
@@ -6,4 +6,5 @@ pub struct Entry {
     pub node: u8,
     pub key: u8,
     pub version: Version,
+    pub older: Option<usize>,
 }

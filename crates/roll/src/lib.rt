@@ -2,6 +2,7 @@
 #![tactic(auto)]
 
 mod entry;
+mod head;
 mod table;
 
 pub use table::Roll;

@@ -5,10 +5,10 @@ ghost use Rattle.roll.specs.Totals.{room, roll_free};
 ghost use Rattle.roll.specs.Table.{roll_meaning};
 ghost use Rattle.roll.specs.Moves.{chains_short};
 
-use super::access::nth_version;
 use super::{PLACES, Roll};
+use crate::head::EMPTY_CHAIN;
 use std::alloc::{AllocError, Global};
-use store::{StoreRefusal, TransactionNumber, Version, VersionStore, chain_index};
+use store::{StoreRefusal, TransactionNumber, Version, VersionStore};
 
 impl VersionStore for Roll {
     ghost meaning = { roll_meaning };
@@ -23,15 +23,15 @@ impl VersionStore for Roll {
     {
         Ok(Roll {
             entries: Vec::with_capacity(heap, PLACES)?,
-            aside: vec![in heap; 0usize; 512]?,
+            chains: vec![in heap; EMPTY_CHAIN; 512]?,
             total: 0,
         })
     }
 
-    #[tactic(auto, using(crate::proofs::Walk::nth_is), unfolding(crate::specs::Entries::entered))]
+    #[tactic(auto, using(crate::proofs::Walk::nth_is))]
     fn nth(&self, node: u8, key: u8, steps: usize) -> Option<(u64, TransactionNumber)> {
-        chain_index(node, key)?;
-        nth_version(&self.entries, node, key, steps).map(|version| version.into())
+        self.nth_version(node, key, steps)
+            .map(|version| version.into())
     }
 
     fn set_aside(&mut self, node: u8, key: u8) -> Result<(), StoreRefusal> {
