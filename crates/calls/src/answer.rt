@@ -19,7 +19,7 @@ pub enum Answer {
     Polled {
         nodes: u8,
     },
-    /// A node votes yes, and gives the update this number, or 0 where the update writes no key that the node holds.
+    /// A node votes yes, and gives the update this number, or 0 where the update writes no key that the node holds. A number throughout, as it is printed.
     Yes {
         number: Stamp,
     },

@@ -4,7 +4,7 @@ use crate::sizes::{KeyNumber, NodeNumber, StoredValue, TransactionNumber};
 ///
 /// A call can hold what no record of a tape may hold: a placement with more or fewer bytes than the make has keys, and a begin whose mode is neither
 /// 0 nor 1.
-#[derive(Clone, Copy)]
+#[derive(Clone, Copy, Debug, PartialEq, Eq)]
 pub enum Call<'a> {
     /// A catalogue of so many nodes and keys. The placement has a byte for each key: bit h says that node h holds it.
     Make {

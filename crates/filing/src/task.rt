@@ -35,6 +35,8 @@ pub fn file_at<S: VersionStore>(
     Ok(())
 }
 
+// The runtime and the store stay two parameters: what is printed is told by one line each, and most of these functions only look at the store.
+
 fn move_to<S: VersionStore>(
     rt: &impl Print,
     store: &mut S,

@@ -47,6 +47,7 @@ fn is_placement(nodes: u8, placement: &[u8]) -> bool
 }
 
 /// Whether counts and placement are those of a catalogue: one to eight nodes, one to 64 keys, and for each key a byte that names its holders.
+// Three values, as a make has them: a struct of what may be no catalogue's would be made to be taken apart here.
 pub fn can_make(nodes: u8, keys: u8, placement: &[u8]) -> bool
     ensures value { result ≡ can_make nodes keys placement.now }
     ensures bounds { result ≡ true → (1 ≤ nodes) × (nodes ≤ 8) × (length placement.now ≤ 64) }

@@ -39,7 +39,8 @@ impl From<Version> for (u64, TransactionNumber) {
 #[derive(Clone, Copy, Debug)]
 pub struct StoreRefusal;
 
-// Where the chain of a node and a key stands in a row of all 512 of them. Node and key are plain numbers throughout: a store is asked for any two.
+// Where the chain of a node and a key stands in a row of all 512 of them. Node and key are two plain numbers throughout: a store is
+// asked for any two, and a struct of them would be taken apart at each use.
 pub fn chain_index(node: u8, key: u8) -> Option<usize>
     ensures { result ≡ index_of node key }
 {

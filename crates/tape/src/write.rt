@@ -75,7 +75,7 @@ fn fits(calls: &[Call<'_>], room: usize) -> bool
         .is_some()
 }
 
-/// A buffer, and the place in it behind what is written.
+/// A buffer, and the place in it behind what is written. (The writes of the library's cursor answer a result, which could not fail here.)
 #[derive(Drop)]
 struct Cursor<'a> {
     buffer: &'a mut [u8],
@@ -84,7 +84,6 @@ struct Cursor<'a> {
 
 // That a cursor stays on its buffer is a clause of each method: it is said of a cursor before and after, which no invariant of the type could see.
 impl Cursor<'_> {
-    /// Writes some bytes.
     fn put(&mut self, bytes: &[u8])
         requires { self.old.at + length bytes.now ≤ length self.old.buffer.now }
         ensures same_buffer { self.new.buffer.ghost_name ≡ self.old.buffer.ghost_name }

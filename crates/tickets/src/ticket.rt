@@ -16,6 +16,9 @@ use std::marker::PhantomData;
 use store::VersionStore;
 
 /// Stands for one transaction, from its begin until the ticket is handed in. Its kind says what it may be asked.
+///
+/// That it is handed in is a mark and no kind: the method that takes it up lets go of it as well, and `drop` asks for the mark. A kind of tickets that may be let go would
+/// need another ticket to be made for each that is taken up.
 pub struct Ticket<K: TicketKind> {
     transaction: TransactionNumber,
     handed_in: bool,

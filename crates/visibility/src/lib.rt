@@ -54,6 +54,7 @@ fn with_all_passing(x: &Transaction, p: NodeNumber, transactions: &[Transaction]
     ensures { result ≡ fold (with_passing x.now.read x.now.clock p) x.now.clock transactions.now }
 {
     let mut joined = x.clock;
+    // A loop and no `fold`: this place keeps its form (docs/DECISIONS.md, "Some places keep one form").
     for u in transactions {
         // The proof does not cover a call whose array is laid straight into `joined`.
         let next = with_passing(x, p, joined, u);
@@ -99,7 +100,7 @@ fn newest_passing<S: VersionStore>(
     ensures newest { (w : World) → w.transactions ≡ transactions.now → result.newest ≡ newest_passes (λ v. passes read (commit_clock w v.writer) clock) (if in_range p k then (S.meaning store.now p k).versions else []) }
 {
     let mut steps: usize = 0;
-    // The form that the project keeps for this walk: the answer of `nth` is taken apart. An iterator made of `nth` would be no plainer.
+    // The `Option` of `nth` is taken apart, and no iterator made of it: this place keeps its form (docs/DECISIONS.md, "Some places keep one form").
     while let Some((value, writer)) = store.nth(p, k, steps) {
         if passes(read, commit_clock(transactions, writer), clock) {
             return seen_after(steps, value, writer);

@@ -26,12 +26,19 @@ fn conflict_at(
     holds(placement, p, k) && (others_write || (has_noted(other, k) && writes))
 }
 
+/// Whether the update with the number `u` is another than `t`. Not inlined: the compiler would compare the numbers of all transactions, of which few are engaged.
+#[inline(never)]
+fn is_another(t: TransactionNumber, u: usize) -> bool
+    ensures { result ≡ not (u == t) }
+{
+    u != usize::from(t)
+}
+
 /// Whether the update with the number `u` is another than `t`, and engaged at a node.
 fn is_rival(t: TransactionNumber, u: usize, other: &Transaction, p: NodeNumber) -> bool
     ensures { result ≡ (not (u == t) && marked other.now.engaged p) }
 {
-    // Engaged are few, so that is looked at first.
-    is_engaged(other, p) && u != usize::from(t)
+    is_engaged(other, p) && is_another(t, u)
 }
 
 /// Whether another update that is engaged at a node conflicts there with `t`, whose record is `x`.
@@ -44,7 +51,7 @@ pub fn is_busy(
 ) -> bool
     ensures { (w : World) → w.transactions ≡ transactions.now → w.placement ≡ placement.now → x.now ≡ transaction w t → result ≡ busy w t p }
 {
-    // The form that the project keeps for this test: nested loops, left by their label at the first conflict.
+    // Nested loops, left by their label at the first conflict, and no chain: this place keeps its form (docs/DECISIONS.md, "Some places keep one form").
     let mut found = false;
     'transactions: for (i, other) in transactions.iter().enumerate() {
         if !is_rival(t, i + 1, other, p) {
