@@ -1,5 +1,5 @@
--- A run with a move that is half applied: a search reads what the first update wrote at one node while the other node has yet to apply it,
--- and a second update that conflicts with the first commits before the search reads again.
+-- A run with a move that is half applied: a Search reads what the first update wrote at one node while the other node has yet to apply it,
+-- and a second update that conflicts with the first commits before the Search reads again.
 use Rattle.std.specs.Prelude.{◌≡◌, ℕ, ◌<◌, true, cond, List, [], ◌∷◌, ◌==◌}
 use Rattle.history.specs.Table.{Version, version, scripts_conflict}
 use Rattle.history.specs.Protocol.{Placement, Clock, Search, Update, State, fresh, Event, begin, read_search, read_update, write, offer, yes_write, commit, learn_write, apply, clock, frontier, chain, next, MayRead, Reachable}
@@ -22,7 +22,7 @@ state_after (e ∷ h) = next two_nodes (state_after h) e
 -- The newest event stands first, so the run is read from below.
 abbrev pub move_run : List Event
 move_run =
-    read_search 2 0 0 (version 70 1) (slots 1 1)  -- the search gets key 0 as before
+    read_search 2 0 0 (version 70 1) (slots 1 1)  -- the Search gets key 0 as before
     ∷ apply 3 0
     ∷ learn_write 3 0
     ∷ commit 3 3 (slots 3 1)
@@ -44,11 +44,11 @@ move_run =
     ∷ begin 1 Update
     ∷ []
 
--- Then node 1 applies the first update too, and the search gets the other half of the move.
+-- Then node 1 applies the first update too, and the Search gets the other half of the move.
 abbrev pub whole_run : List Event
 whole_run = read_search 2 1 1 (version 71 1) (slots 1 1) ∷ apply 1 1 ∷ learn_write 1 1 ∷ move_run
 
--- With the modulus 10 the run is accepted.  Its two committed updates conflict.  The search belongs between them and nowhere else.  At node 1
+-- With the modulus 10 the run is accepted.  Its two committed updates conflict.  The Search belongs between them and nowhere else.  At node 1
 -- every read of it is put off, since its slot there is above the frontier: that node has yet to apply the first update.  Once it has, the read is accepted.
 abbrev pub MoveHalfApplied : Type 0
 MoveHalfApplied = record {

@@ -183,7 +183,7 @@ module _ (s : State) where
 
 -- Each changes one record.  `here` says whether the record is the one that the event is about; elsewhere nothing changes.
 
--- it begins as a search or as an update
+-- it begins as a Search or as an update
 abbrev pub begins : Kind → Bool → Transaction → Transaction
 begins a here x = record {
   kind = cond here a x.kind;
@@ -318,7 +318,7 @@ change_chains f s = record { transaction = s.transaction; node = s.node; partici
 pub data Event : Type 0 where
   begin : ℕ → Kind → Event  -- transaction, kind
   read_own : ℕ → ℕ → Version → Event  -- a read of a key that the transaction has written: transaction, key, answer
-  read_search : ℕ → ℕ → ℕ → Version → Clock → Event  -- a search's read: transaction, key, node, answer, clock after
+  read_search : ℕ → ℕ → ℕ → Version → Clock → Event  -- a Search's read: transaction, key, node, answer, clock after
   read_update : ℕ → ℕ → ℕ → Version → Clock → Event  -- an update's read, which notes the key
   write : ℕ → ℕ → ℕ → Event  -- transaction, key, value
   offer : ℕ → Event
@@ -450,7 +450,7 @@ module _ (holds : Placement) where
   next s (apply t p) =
       change_participation t p releases (change_participation t p applies
       (change_node p (advances (stamp s t)) (change_node p (sees (join (seen s p) (commit_clock s t))) (change_chains (put_versions s t p) s))))
-  -- a search ends
+  -- a Search ends
   next s (finish t) = change_transaction t (becomes Finished) s
 
   -- The modulus of stamps: whatever number is given to transaction t leaves t when it is divided by the modulus.
@@ -478,7 +478,7 @@ module _ (holds : Placement) where
     Accepted s (begin t a) = (status s t ≡ Unbegun) × (0 < t)
     -- where t has written k, its own value with its own number is the answer
     Accepted s (read_own t k a) = (status s t ≡ Open) × (wrote s t k ≡ true) × (a ≡ written_version s k t)
-    -- a search reads what it may read
+    -- a Search reads what it may read
     Accepted s (read_search t k p a c) = MayRead s t k p a c × (kind s t ≡ Search)
     -- an update's answer must be the newest version there, else the read is overtaken and refused
     Accepted s (read_update t k p a c) = MayRead s t k p a c × (kind s t ≡ Update) × (a.writer ≡ (newest (chain s p k)).writer)
@@ -509,7 +509,7 @@ module _ (holds : Placement) where
       learned_there : learned s t p ≡ true;
       least : (u : ℕ) → engaged s u p ≡ true → WriteNode s u p → number s t p ≤ number s u p;
     }
-    -- an open search can end
+    -- an open Search can end
     Accepted s (finish t) = (status s t ≡ Open) × (kind s t ≡ Search)
 
     -- The states that accepted events lead to, each with its history, the newest event first.

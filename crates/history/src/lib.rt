@@ -8,7 +8,7 @@ pub fn histories_stand()
     ensures { HistoriesStand }
 {}
 
-/// A history with two conflicting commits, a search that belongs between them, and a node where its reads are put off.
+/// A history with two conflicting commits, a Search that belongs between them, and a node where its reads are put off.
 pub fn move_half_applied()
     ensures { MoveHalfApplied }
 {}

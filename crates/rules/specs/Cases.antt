@@ -47,7 +47,7 @@ Holds (run_is nodes placement lines clocks) =
     × AllByRecursion (λ c. (transaction (after_lines nodes placement lines) c.0).commit ≡ c.1) clocks
 
 -- Two nodes, and three keys: key 0 at node 0, key 1 at node 1, key 2 at both. Update 1 writes keys 0 and 1 and commits, and node 0 applies
--- it. A search that has read key 0 there is put off at node 1 until that node has applied the update too. With the make this run has
+-- it. A Search that has read key 0 there is put off at node 1 until that node has applied the update too. With the make this run has
 -- seventeen answers.
 abbrev pub two_node_lines : List (Request × Answer)
 two_node_lines =
@@ -71,7 +71,7 @@ two_node_lines =
 
 -- Three nodes, and four keys: key 0 at node 0, key 1 at node 1, keys 2 and 3 at node 2. Search 1 reads key 0 before update 2 writes it.
 -- Update 3 reads what update 2 wrote, and writes key 2. Update 4 writes keys 1 and 3, and prepares at node 2 behind update 3, which is not
--- yet released there. So update 4 has the higher stamp at node 2 and yet does not come after update 2. In the end the search sees what
+-- yet released there. So update 4 has the higher stamp at node 2 and yet does not come after update 2. In the end the Search sees what
 -- update 4 wrote, and not what update 3 wrote, although both are applied at node 2.
 abbrev pub three_node_lines : List (Request × Answer)
 three_node_lines =
@@ -113,7 +113,7 @@ three_node_lines =
 
 -- Two nodes, and two keys: key 0 at node 0, key 1 at node 1. Update 1 reads key 0, which update 2 then overwrites; so update 1 comes before
 -- update 2 in every order that answers both. Node 0 is busy for update 2 until it releases update 1, which only reads there, and its vote then
--- carries the commit clock of update 1. So a search that gets what update 2 wrote is put off at node 1 until that node has applied update 1.
+-- carries the commit clock of update 1. So a Search that gets what update 2 wrote is put off at node 1 until that node has applied update 1.
 abbrev pub overwritten_lines : List (Request × Answer)
 overwritten_lines =
     (begin 1, Begun 1)

@@ -40,7 +40,7 @@ is_decided Aborted = true
 is_decided Finished = false
 
 -- The state that each call needs: a read an open transaction; write and offer an open update; prepare and decide an offered one;
--- cancel an open or offered update; learn a committed or aborted one; finish an open search.
+-- cancel an open or offered update; learn a committed or aborted one; finish an open Search.
 abbrev pub allowed : Event → Kind → State → Bool
 allowed Read kind state = is_open state
 allowed Write kind state = is_update kind && is_open state

@@ -71,7 +71,7 @@ cancel_call w t =
     (check (may Cancel (transaction w t)) w WrongState
     (Done, with_transaction w t (becomes is_aborted (transaction w t))))
 
--- Finish (t) ends a search.
+-- Finish (t) ends a Search.
 abbrev pub finish_call : World → ℕ → Outcome
 finish_call w t =
     check (is_begun w t) w NoSuchTransaction

@@ -1,4 +1,4 @@
--- The mode of a begin: 0 stands for a search and 1 for an update, and there is no other.
+-- The mode of a begin: 0 stands for a Search and 1 for an update, and there is no other.
 use Rattle.std.specs.Prelude.{ℕ, zero, suc, Result, Ok, Err}
 use Rattle.calls.specs.declared.refusal.Refusal.{Refusal}
 use Rattle.calls.specs.declared.refusal.Refusal.TheVariants.{BadRecord}

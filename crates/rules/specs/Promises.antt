@@ -65,7 +65,7 @@ abbrev pub Answered : Request → Answer → Transcript → Type 0
 Answered request answer [] = ⊥
 Answered request answer (x ∷ earlier) = ((x.0 ≡ request) × (x.1 ≡ answer)) ⊎ Answered request answer earlier
 
--- A search: a begin of mode 0 answered its number. It is open until a finish of it is accepted.
+-- A Search: a begin of mode 0 answered its number. It is open until a finish of it is accepted.
 abbrev pub IsSearch : Transcript → ℕ → Type 0
 IsSearch calls t = Answered (begin 0) (Begun t) calls
 
@@ -116,12 +116,12 @@ pub record Promises (free : FreeRule) (calls : Transcript) (w : World) : Type 0 
   pub decided_answered : OrderAnswered calls (decisions calls)
   -- After its first version a holder's chain of a key lists that key's committed writers in this order, lacking at most the last.
   pub chains_list_writers : (p k : ℕ) → holds w p k ≡ true → ListsWriters calls w p k
-  -- For each search, which is never committed, and for each update that is not committed, the committed updates have an order with a place
+  -- For each Search, which is never committed, and for each update that is not committed, the committed updates have an order with a place
   -- for it: run so on one table all get their answers again, and the table ends as in the order of decision.
   pub searches_uncommitted : (t : ℕ) → IsSearch calls t → Member t (decisions calls) → ⊥
   pub uncommitted_has_a_place : (t : ℕ) → (Member t (decisions calls) → ⊥) → HasAPlace calls t
-  -- An open search's read of a key at a holder is refused exactly when that node has yet to apply a committed update that writes there,
-  -- stamped no higher than the search's slot for the node; and then it is refused as not yet.
+  -- An open Search's read of a key at a holder is refused exactly when that node has yet to apply a committed update that writes there,
+  -- stamped no higher than the Search's slot for the node; and then it is refused as not yet.
   pub refused_if_behind : (t k p : ℕ) → IsOpenSearch calls t → holds w p k ≡ true → YetToApply calls w t p → read_answer free w t k p ≡ Refused NotYet
   pub refused_only_if_behind : (t k p : ℕ) → IsOpenSearch calls t → holds w p k ≡ true → (r : Refusal) → read_answer free w t k p ≡ Refused r → YetToApply calls w t p
   -- A transaction's first accepted read, its own writes aside, gets the newest version applied at that node.

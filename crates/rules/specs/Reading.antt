@@ -45,7 +45,7 @@ visible w x k p = newest_passing (version_passes w x p) (w.store p k).versions
 abbrev pub can_note : Transaction → ℕ → Bool
 can_note x k = noted x k || nat_lt (how_many x.noted) 8
 
--- A read that is not put off. A search takes what it sees; for an update that must be the newest version there, and the update notes it.
+-- A read that is not put off. A Search takes what it sees; for an update that must be the newest version there, and the update notes it.
 abbrev pub read_by : World → ℕ → ℕ → ℕ → Transaction → Kind → Outcome
 read_by w t k p x Search = (Found (visible w x k p).value (visible w x k p).writer, with_transaction w t (has_read p (clock_after w x p) x))
 read_by w t k p x Update =

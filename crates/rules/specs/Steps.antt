@@ -24,7 +24,7 @@ can_make nodes keys placement =
 abbrev pub made_world : ℕ → List ℕ → World
 made_world nodes placement = record { nodes = replicate nodes new_node; transactions = []; placement = placement; store = fresh }
 
--- The mode of a begin is 0 for a search and 1 for an update. There is no other.
+-- The mode of a begin is 0 for a Search and 1 for an update. There is no other.
 abbrev pub begin_mode : World → ℕ → Outcome
 begin_mode w zero = begin_call w Search
 begin_mode w (suc zero) = begin_call w Update

@@ -7,7 +7,7 @@ use calls::refusal::Refusal;
 use calls::sizes::{Stamp, StoredValue, TransactionNumber};
 use clock::{Clock, NodeMarks};
 
-/// A search reads; an update reads and writes.
+/// A Search reads; an update reads and writes.
 #[derive(Clone, Copy, Debug, PartialEq, Eq)]
 pub enum Kind {
     Search,
@@ -29,7 +29,7 @@ impl TryFrom<u8> for Kind {
     }
 }
 
-/// How far a transaction has come. A search goes from open to finished, an update from open over offered to committed or aborted.
+/// How far a transaction has come. A Search goes from open to finished, an update from open over offered to committed or aborted.
 #[derive(Clone, Copy, Debug, PartialEq, Eq)]
 pub enum State {
     Open,
