@@ -1,4 +1,4 @@
-use Rattle.std.proofs.Common.{rules, tests, ℕ, Bool, ap, refl, ◌∙◌, ◌&&◌, ◌||◌, false, slice_index}
+use Rattle.std.proofs.Common.{rules, tests, ℕ, Bool, ap, refl, ◌∙◌, ◌&&◌, ◌||◌, slice_index}
 use Rattle.std.specs.Prelude.{bit_or}
 use Rattle.std.specs.List.{list_any, range_with_len}
 use Rattle.std.proofs.lemmas.Iterator.{YieldsList-from_range}

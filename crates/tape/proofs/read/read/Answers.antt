@@ -1,12 +1,12 @@
-use Rattle.std.proofs.Common.{◌≡◌, ℕ, nat_lt, [], ◌∷◌, ◌++◌, map, length, Err, vec_items, sym, ap, ◌∙◌, subst, append-nil, arith, rules}
+use Rattle.std.proofs.Common.{◌≡◌, nat_lt, [], ◌∷◌, ◌++◌, map, length, Err, vec_items, sym, ap, ◌∙◌, subst, append-nil, arith, rules}
 use Rattle.std.proofs.lemmas.List.{map_push}
 use Rattle.std.proofs.lemmas.Bool.{le-ltb, cond-false}
 use Rattle.calls.specs.declared.refusal.Refusal.TheVariants.{UnreadableTape}
 use Rattle.tape.specs.Trips.{LaidOut}
 use Rattle.tape.specs.Records.{entry_of}
-use Rattle.tape.specs.Reading.{Content, requested, record_at, read_tape}
+use Rattle.tape.specs.Reading.{requested, read_tape}
 use Rattle.tape.proofs.LaysOut.{lays_out_again}
-use Rattle.tape.proofs.Records.{beyond, rest_from, rest_none, read_more}
+use Rattle.tape.proofs.Records.{rest_from, rest_none, read_more}
 use Rattle.tape.proofs.read.read.Goals as goal
 
 pub loop-at-preserved : goal.loop-at-preserved
@@ -20,14 +20,6 @@ loop-at-preserved c =
     let joined : map entry_of (vec_items c.push-in-loop-at.new.self) ≡ done ++ (at, content) ∷ [] = search (rules, map_push, items) in
     ap (λ entries. entries ++ rest_from tape next) joined
     ∙ read_more done (rest_from tape 0) content next tape at c.record_at-next.ensures c.loop-at-test.true c.loop-at.invariant
-
-pub loop-at-smaller : goal.loop-at-smaller
-loop-at-smaller c =
-    let tape = c.args.tape.now in
-    let at = c.loop-at.at in
-    let next : c.record_at-next.result.1 ≡ (record_at tape at).1 = ap (λ (x : Content × ℕ). x.1) c.record_at-next.ensures in
-    let behind = beyond tape at c.loop-at-test.true in
-    omega (arith, next, behind.0)
 
 pub returns : goal.returns
 returns c =

@@ -1,6 +1,5 @@
-use Rattle.std.proofs.Common.{ℕ, get_or, sym, refl, ap, ◌∙◌, take_all}
+use Rattle.std.proofs.Common.{ℕ, get_or, sym, refl, ap, ◌∙◌}
 use Rattle.store.specs.Model.{put_after}
-use Rattle.rules.specs.Applying.{put_all}
 use Rattle.voting.proofs.Puts.{put_none, put_more}
 use Rattle.voting.proofs.places.put_all.Goals as goal
 
@@ -18,9 +17,3 @@ loop-k-preserved g c =
           ∙ put_more p c.args.t c.args.x.now m w c.args.keys.now c.loop-k.k-index c.loop-k-test.true c.loop-k.invariant.0),
       c.put.ensures.rule ∙ c.loop-k.invariant.1,
     )
-
-pub returns : goal.returns
-returns g c =
-    let m = g.S.VersionStore.meaning c.args.store.now in
-    let all = take_all c.loop-k.k-index c.args.keys.now c.loop-k-test.false in
-    record { after = c.loop-k.invariant.0 ∙ ap (put_all m c.args.p c.args.t c.args.x.now) all; rule = c.loop-k.invariant.1 }

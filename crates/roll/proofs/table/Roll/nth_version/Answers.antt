@@ -2,16 +2,8 @@ use Rattle.std.proofs.Common.{◌≡◌, None, sym, ap, slice_get, ◌∙◌, ar
 use Rattle.std.proofs.lemmas.Bool.{cond-true}
 use Rattle.store.proofs.Listed.{placed_in}
 use Rattle.roll.specs.Entries.{entered, versions_of}
-use Rattle.roll.proofs.Links.{newest_read}
-use Rattle.roll.proofs.Walk.{reached_first, reached_next, within, answer_first, answer_here, answer_none}
+use Rattle.roll.proofs.Walk.{reached_next, within, answer_first, answer_here, answer_none}
 use Rattle.roll.proofs.table.Roll.nth_version.Goals as goal
-
-pub loop-init : goal.loop-init
-loop-init c =
-    let r = c.args.self.now in
-    let at = sym c.chain_index.ensures ∙ c.in_ok-chain_index.was in
-    reached_first c.args.node c.args.key r.entries.items c.index.result.now.newest
-    (newest_read r.chains.items r.entries.items c.args.node c.args.key c.in_ok-chain_index.field-0 c.index.result.now r.headed (sym r.chains.ok.0 ∙ r.whole) at c.index.ensures)
 
 pub returns-in_err-place : goal.returns-in_err-place
 unfolding entered
