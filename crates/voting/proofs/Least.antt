@@ -1,8 +1,8 @@
 -- The update that waits with the least number, as a chain over the numbered records finds it.
-use Rattle.std.proofs.Common.{◌≡◌, ℕ, zero, suc, ◌+◌, ◌-◌, ◌<◌, ◌≤◌, Bool, true, false, ◌&&◌, cond, nat_lt, List, [], ◌∷◌, map, filter, fold, length, get_or, Ordering, Less, Equal, Greater, Some, None, Option, refl, sym, ap, ◌∙◌, subst, add-one, arith}
+use Rattle.std.proofs.Common.{◌≡◌, ℕ, suc, ◌+◌, ◌<◌, Bool, true, false, ◌&&◌, cond, nat_lt, List, [], ◌∷◌, map, filter, fold, length, get_or, Ordering, Less, Equal, Greater, Some, None, Option, refl, sym, ap, ◌∙◌, subst, arith}
 use Rattle.std.specs.Fn.{CalledAt}
 use Rattle.std.specs.Iterator.{KeyTurn, PicksMinByKey}
-use Rattle.std.specs.List.{FoldsTo, zip, range_with_len}
+use Rattle.std.specs.List.{FoldsTo, enumerate_from, range_with_len}
 use Rattle.std.specs.Option.{option_map}
 use Rattle.std.specs.Ordering.{nat_cmp, min_by_ordering}
 use Rattle.std.proofs.lemmas.Bool.{cond-true, cond-false}
@@ -10,10 +10,6 @@ use Rattle.std.proofs.lemmas.Bool.Decides.{nat_tests}
 use Rattle.std.proofs.lemmas.Cmp.{ranked}
 use Rattle.std.proofs.lemmas.Iterator.{YieldsList}
 use Rattle.std.proofs.lemmas.Iterator.Consumers.{YieldsList-end}
-use Rattle.std.specs.Range.{range_inclusive_start, range_inclusive_end, range_inclusive_exhausted, range_inclusive_len, range_inclusive_left}
-use Rattle.std.specs.declared.ops.RangeInclusive.{RangeInclusive}
-use Rattle.std.proofs.iter.runs.Sources.{nat_range_inclusive_steps}
-use Rattle.std.proofs.lemmas.Iterator.Consumers.{YieldsList-from_shown}
 use denote.Param.Members.{Mut}
 use denote.Ref.{Bor}
 use Rattle.clock.specs.Clocks.{slot, marked}
@@ -66,32 +62,11 @@ module _ {A B F : Type 0} {g : Mut F (Bor A × Unit {0}) ℕ} {f : F} (v : A →
         let at_x = computes x k h called in
         ap Some (turns xs ((h, k), x) (q, m) at_x.0 at_x.1 picked) ∙ ap (least_by key) (YieldsList-end chain (x ∷ xs) d.1.0 d.1.1 None d.0 refl d.1.2).0
 
--- A range with both ends gives the numbers that it has left.
-abbrev pub left : RangeInclusive ℕ → ℕ
-left s = range_inclusive_left (λ x y. y - x) s
+-- The number of the transaction that a chain over indices and records finds.
+abbrev pub number_found : Option (ℕ × Bor Transaction) → Option ℕ
+number_found found = option_map (λ (z : ℕ × Transaction). z.0 + 1) (option_map (λ (z : ℕ × Bor Transaction). (z.0, z.1.now)) found)
 
-left_given : (s t : RangeInclusive ℕ) (x : ℕ) → nat_range_inclusive_steps s (Some x) t → range_with_len (range_inclusive_start s) (left s) ≡ x ∷ range_with_len (range_inclusive_start t) (left t)
-left_given s t x step =
-    ap (range_with_len (range_inclusive_start s)) (sym step.1.1 ∙ add-one (left t))
-    ∙ ap (λ (n : ℕ). n ∷ range_with_len (range_inclusive_start s + 1) (left t)) (sym step.1.0)
-    ∙ ap (λ (l : List ℕ). x ∷ l) (rest (range_inclusive_exhausted t) refl)
-  where
-    rest : (spent : Bool) → range_inclusive_exhausted t ≡ spent → range_with_len (range_inclusive_start s + 1) (left t) ≡ range_with_len (range_inclusive_start t) (left t)
-    rest true e =
-        let none : left t ≡ 0 = ap (range_inclusive_len (λ x y. y - x) (range_inclusive_start t) (range_inclusive_end t)) e in
-        ap (range_with_len (range_inclusive_start s + 1)) none ∙ sym (ap (range_with_len (range_inclusive_start t)) none)
-    rest false e = ap (λ (n : ℕ). range_with_len n (left t)) (sym (step.1.2 e))
-
-pub YieldsList-from_inclusive : {s : RangeInclusive ℕ} (a b : ℕ) → a ≤ b → range_inclusive_start s ≡ a → range_inclusive_end s ≡ b → range_inclusive_exhausted s ≡ false → YieldsList nat_range_inclusive_steps (λ x. x) s (range_with_len a (b + 1 - a))
-YieldsList-from_inclusive {s} a b low start end fresh =
-    let count : left s ≡ b + 1 - a = rw (start, end, fresh) (omega arith) in
-    subst (λ (l : List ℕ). YieldsList nat_range_inclusive_steps (λ x. x) s l) (ap (λ (n : ℕ). range_with_len n (left s)) start ∙ ap (range_with_len a) count)
-    (YieldsList-from_shown nat_range_inclusive_steps (λ x. x) (λ t. range_with_len (range_inclusive_start t) (left t))
-    (λ t u step. ap (λ (n : ℕ). length (range_with_len (range_inclusive_start t) n)) step.1.0)
-    (λ t x u step. left_given t u x step)
-    s)
-
--- The records with their numbers, of which those that wait are kept.
+-- The records with their indices, of which those that wait are kept. At index i stands the record of transaction i + 1.
 module _ (w : World) (p : ℕ) where
   abbrev pub is_waiting : ℕ × Transaction → Bool
   is_waiting z = marked z.1.engaged p && is_write_node w z.1 p
@@ -99,57 +74,57 @@ module _ (w : World) (p : ℕ) where
   abbrev pub number_of : ℕ × Transaction → ℕ
   number_of z = slot z.1.numbers p
 
-  zip_nothing : (l : List ℕ) → zip {K = ℕ} {X = Transaction} l [] ≡ []
-  zip_nothing [] = refl
-  zip_nothing (n ∷ l) = refl
+  abbrev Indexed : ℕ → List Transaction → Type 0
+  Indexed a xs = (i : ℕ) → i < length xs → get_or xs i (new_transaction Search) ≡ transaction w (a + i + 1)
 
-  abbrev Numbered : ℕ → List Transaction → Type 0
-  Numbered a xs = (i : ℕ) → i < length xs → get_or xs i (new_transaction Search) ≡ transaction w (a + i)
+  first_of : (a : ℕ) (x : Transaction) (xs : List Transaction) → Indexed a (x ∷ xs) → x ≡ transaction w (a + 1)
+  first_of a x xs indexed = subst (λ (n : ℕ). x ≡ transaction w n) (omega arith) (indexed 0 (omega arith))
 
-  first_of : (a : ℕ) (x : Transaction) (xs : List Transaction) → Numbered a (x ∷ xs) → x ≡ transaction w a
-  first_of a x xs numbered = subst (λ (n : ℕ). x ≡ transaction w n) (omega arith) (numbered 0 (omega arith))
-
-  others_of : (a : ℕ) (x : Transaction) (xs : List Transaction) → Numbered a (x ∷ xs) → Numbered (a + 1) xs
-  others_of a x xs numbered i inside = subst (λ (n : ℕ). get_or xs i (new_transaction Search) ≡ transaction w n) (omega arith) (numbered (suc i) (omega (arith, inside)))
+  others_of : (a : ℕ) (x : Transaction) (xs : List Transaction) → Indexed a (x ∷ xs) → Indexed (a + 1) xs
+  others_of a x xs indexed i inside = subst (λ (n : ℕ). get_or xs i (new_transaction Search) ≡ transaction w n) (omega arith) (indexed (suc i) (omega (arith, inside)))
 
   abbrev IsRecord : ℕ × Transaction → Type 0
-  IsRecord z = z.1 ≡ transaction w z.0
+  IsRecord z = z.1 ≡ transaction w (z.0 + 1)
+
+  abbrev numbered : ℕ × Transaction → ℕ
+  numbered z = z.0 + 1
 
   -- What the rest of the list does to the best so far.
   abbrev Leads : List ℕ → List (ℕ × Transaction) → Type 0
-  Leads numbers kept = (c : ℕ × Transaction) → IsRecord c → fold (sooner w p) (Some c.0) numbers ≡ Some (fold (lower number_of) c kept).0
+  Leads numbers kept = (c : ℕ × Transaction) → IsRecord c → fold (sooner w p) (Some (numbered c)) numbers ≡ Some (numbered (fold (lower number_of) c kept))
 
-  leads_on : (z b : ℕ × Transaction) (numbers : List ℕ) (kept : List (ℕ × Transaction)) (taken less : Bool) → less ≡ nat_lt (number_of z) (number_of b) → Leads numbers kept → IsRecord z → IsRecord b → fold (sooner w p) (cond (taken && less) (Some z.0) (Some b.0)) numbers ≡ Some (fold (lower number_of) b (cond taken (z ∷ kept) kept)).0
-  leads_on z b numbers kept true true e rest z_is b_is = rest z z_is ∙ ap (λ (m : Bool). Some (fold (lower number_of) (cond m z b) kept).0) e
-  leads_on z b numbers kept true false e rest z_is b_is = rest b b_is ∙ ap (λ (m : Bool). Some (fold (lower number_of) (cond m z b) kept).0) e
+  leads_on : (z b : ℕ × Transaction) (numbers : List ℕ) (kept : List (ℕ × Transaction)) (taken less : Bool) → less ≡ nat_lt (number_of z) (number_of b) → Leads numbers kept → IsRecord z → IsRecord b → fold (sooner w p) (cond (taken && less) (Some (numbered z)) (Some (numbered b))) numbers ≡ Some (numbered (fold (lower number_of) b (cond taken (z ∷ kept) kept)))
+  leads_on z b numbers kept true true e rest z_is b_is = rest z z_is ∙ ap (λ (m : Bool). Some (numbered (fold (lower number_of) (cond m z b) kept))) e
+  leads_on z b numbers kept true false e rest z_is b_is = rest b b_is ∙ ap (λ (m : Bool). Some (numbered (fold (lower number_of) (cond m z b) kept))) e
   leads_on z b numbers kept false less e rest z_is b_is = rest b b_is
 
-  some_along : (xs : List Transaction) (a n : ℕ) → length xs ≤ n → Numbered a xs → Leads (range_with_len a (length xs)) (filter is_waiting (zip (range_with_len a n) xs))
-  some_along [] a n room numbered b b_is = ap (λ (l : List (ℕ × Transaction)). Some (fold (lower number_of) b (filter is_waiting l)).0) (sym (zip_nothing (range_with_len a n)))
-  some_along (x ∷ xs) a zero room numbered b b_is = absurd (omega (arith, room))
-  some_along (x ∷ xs) a (suc n) room numbered b b_is =
-      let x_is = first_of a x xs numbered in
-      ap (λ (o : Option ℕ). fold (sooner w p) o (range_with_len (a + 1) (length xs)))
-      (ap (λ (y : Transaction). cond (is_waiting (a, y) && nat_lt (number_of (a, y)) (number_at w p b.0)) (Some a) (Some b.0)) (sym x_is)
-      ∙ ap (λ (y : Transaction). cond (is_waiting (a, x) && nat_lt (number_of (a, x)) (slot y.numbers p)) (Some a) (Some b.0)) (sym b_is))
-      ∙ leads_on (a, x) b (range_with_len (a + 1) (length xs)) (filter is_waiting (zip (range_with_len (a + 1) n) xs)) (is_waiting (a, x)) (nat_lt (number_of (a, x)) (number_of b)) refl
-      (some_along xs (a + 1) n (omega (arith, room)) (others_of a x xs numbered)) x_is b_is
+  some_along : (xs : List Transaction) (a : ℕ) → Indexed a xs → Leads (range_with_len (a + 1) (length xs)) (filter is_waiting (enumerate_from a xs))
+  some_along [] a indexed b b_is = refl
+  some_along (x ∷ xs) a indexed b b_is =
+      let x_is = first_of a x xs indexed in
+      ap (λ (o : Option ℕ). fold (sooner w p) o (range_with_len (a + 1 + 1) (length xs)))
+      (ap (λ (y : Transaction). cond (is_waiting (a, y) && nat_lt (number_of (a, y)) (number_at w p (numbered b))) (Some (a + 1)) (Some (numbered b))) (sym x_is)
+      ∙ ap (λ (y : Transaction). cond (is_waiting (a, x) && nat_lt (number_of (a, x)) (slot y.numbers p)) (Some (a + 1)) (Some (numbered b))) (sym b_is))
+      ∙ leads_on (a, x) b (range_with_len (a + 1 + 1) (length xs)) (filter is_waiting (enumerate_from (a + 1) xs)) (is_waiting (a, x)) (nat_lt (number_of (a, x)) (number_of b)) refl
+      (some_along xs (a + 1) (others_of a x xs indexed)) x_is b_is
 
-  none_on : (z : ℕ × Transaction) (numbers : List ℕ) (kept : List (ℕ × Transaction)) (taken : Bool) → Leads numbers kept → fold (sooner w p) None numbers ≡ option_map (λ c. c.0) (least_by number_of kept) → IsRecord z → fold (sooner w p) (cond taken (Some z.0) None) numbers ≡ option_map (λ c. c.0) (least_by number_of (cond taken (z ∷ kept) kept))
+  none_on : (z : ℕ × Transaction) (numbers : List ℕ) (kept : List (ℕ × Transaction)) (taken : Bool) → Leads numbers kept → fold (sooner w p) None numbers ≡ option_map numbered (least_by number_of kept) → IsRecord z → fold (sooner w p) (cond taken (Some (numbered z)) None) numbers ≡ option_map numbered (least_by number_of (cond taken (z ∷ kept) kept))
   none_on z numbers kept true some none z_is = some z z_is
   none_on z numbers kept false some none z_is = none
 
-  none_along : (xs : List Transaction) (a n : ℕ) → length xs ≤ n → Numbered a xs → fold (sooner w p) None (range_with_len a (length xs)) ≡ option_map (λ c. c.0) (least_by number_of (filter is_waiting (zip (range_with_len a n) xs)))
-  none_along [] a n room numbered = ap (λ (l : List (ℕ × Transaction)). option_map (λ (c : ℕ × Transaction). c.0) (least_by number_of (filter is_waiting l))) (sym (zip_nothing (range_with_len a n)))
-  none_along (x ∷ xs) a zero room numbered = absurd (omega (arith, room))
-  none_along (x ∷ xs) a (suc n) room numbered =
-      let x_is = first_of a x xs numbered in
-      ap (λ (y : Transaction). fold (sooner w p) (cond (is_waiting (a, y)) (Some a) None) (range_with_len (a + 1) (length xs))) (sym x_is)
-      ∙ none_on (a, x) (range_with_len (a + 1) (length xs)) (filter is_waiting (zip (range_with_len (a + 1) n) xs)) (is_waiting (a, x))
-      (some_along xs (a + 1) n (omega (arith, room)) (others_of a x xs numbered)) (none_along xs (a + 1) n (omega (arith, room)) (others_of a x xs numbered)) x_is
+  none_along : (xs : List Transaction) (a : ℕ) → Indexed a xs → fold (sooner w p) None (range_with_len (a + 1) (length xs)) ≡ option_map numbered (least_by number_of (filter is_waiting (enumerate_from a xs)))
+  none_along [] a indexed = refl
+  none_along (x ∷ xs) a indexed =
+      let x_is = first_of a x xs indexed in
+      ap (λ (y : Transaction). fold (sooner w p) (cond (is_waiting (a, y)) (Some (a + 1)) None) (range_with_len (a + 1 + 1) (length xs))) (sym x_is)
+      ∙ none_on (a, x) (range_with_len (a + 1 + 1) (length xs)) (filter is_waiting (enumerate_from (a + 1) xs)) (is_waiting (a, x))
+      (some_along xs (a + 1) (others_of a x xs indexed)) (none_along xs (a + 1) (others_of a x xs indexed)) x_is
 
-  pub least_of_waiting : (xs : List Transaction) → w.transactions ≡ xs → length xs ≤ 255 → option_map (λ c. c.0) (least_by number_of (filter is_waiting (zip (range_with_len 1 255) xs))) ≡ least_waiting w p
+  least_of_waiting : (xs : List Transaction) → w.transactions ≡ xs → option_map numbered (least_by number_of (filter is_waiting (enumerate_from 0 xs))) ≡ least_waiting w p
   unfolding least_waiting
-  least_of_waiting xs are few =
-      sym (none_along xs 1 255 few (λ i inside. ap (λ (l : List Transaction). get_or l i (new_transaction Search)) (sym are) ∙ ap (λ (n : ℕ). get_or w.transactions n (new_transaction Search)) (omega arith)))
+  least_of_waiting xs are =
+      sym (none_along xs 0 (λ i inside. ap (λ (l : List Transaction). get_or l i (new_transaction Search)) (sym are) ∙ ap (λ (n : ℕ). get_or w.transactions n (new_transaction Search)) (omega arith)))
       ∙ ap (λ (l : List Transaction). fold (sooner w p) None (range_with_len 1 (length l))) (sym are)
+
+  pub least_found : (xs : List Transaction) → w.transactions ≡ xs → (found : Option (ℕ × Bor Transaction)) → option_map (λ (z : ℕ × Bor Transaction). (z.0, z.1.now)) found ≡ least_by number_of (filter is_waiting (enumerate_from 0 xs)) → number_found found ≡ least_waiting w p
+  least_found xs are found is = ap (option_map numbered) is ∙ least_of_waiting xs are

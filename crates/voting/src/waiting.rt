@@ -17,7 +17,7 @@ fn waits(placement: &[u8], x: &Transaction, p: NodeNumber) -> bool
     is_engaged(x, p) && writes_at(placement, x, p)
 }
 
-/// The update that waits at a node with the least number. Of more than 255 transactions it looks at the first 255, which have a number.
+/// The update that waits at a node with the least number. Nothing where that stands past the 255 transactions that have a number.
 pub fn least_waiting(
     transactions: &[Transaction],
     placement: &[u8],
@@ -26,9 +26,10 @@ pub fn least_waiting(
     ensures value { (w : World) → w.transactions ≡ transactions.now → w.placement ≡ placement.now → length transactions.now ≤ 255 → result ≡ least_waiting w p }
     ensures begun { (w : World) → w.transactions ≡ transactions.now → IfSome result (λ t. is_begun w t ≡ true) }
 {
-    (1..=TransactionNumber::MAX)
-        .zip(transactions)
+    let (i, _) = transactions
+        .iter()
+        .enumerate()
         .filter(|(_, x)| waits(placement, x, p))
-        .min_by_key(|(_, x)| number_at(x, p))
-        .map(|(t, _)| t)
+        .min_by_key(|(_, x)| number_at(x, p))?;
+    TransactionNumber::try_from(i + 1).ok()
 }
