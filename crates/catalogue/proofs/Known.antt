@@ -6,16 +6,13 @@ use Rattle.rules.specs.declared.records.Transaction.{Transaction}
 use Rattle.rules.specs.World.{node, transaction}
 use Rattle.catalogue.specs.declared.table.Table.{Table}
 use Rattle.catalogue.specs.Tables.{world_of}
-use Rattle.records.specs.Bounds.{most, TransactionWithin, NodeWithin, Raises}
+use Rattle.records.specs.Bounds.{most, TransactionWithin, NodeWithin}
 
 pub node_known : (table : Table) (p : ℕ) (n : Node) → n ≡ node (world_of table fresh) p → NodeWithin (most table.transactions.items) n
 node_known table p n is = subst (λ (y : Node). NodeWithin (most table.transactions.items) y) (sym is) (table.nodes_within p)
 
-pub transaction_known : (table : Table) (t : ℕ) (x : Transaction) → x ≡ transaction (world_of table fresh) t → TransactionWithin (most table.transactions.items) x
-transaction_known table t x is =
-    subst (λ (y : Transaction). TransactionWithin (most table.transactions.items) y) (sym is) (table.collected_within (t - 1), table.decided_within (t - 1))
+pub known : (table : Table) (t : ℕ) → TransactionWithin (most table.transactions.items) (transaction (world_of table fresh) t)
+known table t = (table.collected_within (t - 1), table.decided_within (t - 1))
 
--- A record that raised a number once more than the one that it replaces.
-pub raises_known : (table : Table) (t : ℕ) (x y : Transaction) → x ≡ transaction (world_of table fresh) t → (TransactionWithin (most table.transactions.items) x → Raises (most table.transactions.items) x y) → Raises (most table.transactions.items) (transaction (world_of table fresh) t) y
-raises_known table t x y is raised =
-    subst (λ (z : Transaction). Raises (most table.transactions.items) z y) is (raised (transaction_known table t x is))
+pub transaction_known : (table : Table) (t : ℕ) (x : Transaction) → x ≡ transaction (world_of table fresh) t → TransactionWithin (most table.transactions.items) x
+transaction_known table t x is = subst (λ (y : Transaction). TransactionWithin (most table.transactions.items) y) (sym is) (known table t)

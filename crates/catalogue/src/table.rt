@@ -1,6 +1,6 @@
 //! The tables of a catalogue: by node, by transaction and by key, none of which runs beside another.
 //!
-//! A transaction's number goes with a copy of its record, and a node's with a copy of its own; whose they are is said by one clause each, `Recorded` and `NodeRecorded`.
+//! A record of a transaction is lent or changed in place, and a node's number goes with a copy of its record; whose they are is said by one clause each, `Recorded` and `NodeRecorded`.
 
 ghost use Rattle.std.specs.Prelude.{◌≤◌, vec_len, vec_capacity};
 ghost use Rattle.records.specs.Bounds.{most, NodesWithin, AllCollectedWithin, AllDecidedWithin};
@@ -8,6 +8,7 @@ ghost use Rattle.records.specs.Bounds.{most, NodesWithin, AllCollectedWithin, Al
 use rules::records::{Node, Transaction};
 
 pub mod access;
+pub mod commits;
 pub mod numbers;
 pub mod views;
 pub mod votes;

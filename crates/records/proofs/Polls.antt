@@ -1,10 +1,10 @@
 -- The nodes that an update polls, and their votes.
-use Rattle.std.proofs.Common.{◌≡◌, ℕ, ◌<◌, Bool, true, not, ◌||◌, Decides, refl, arith}
-use Rattle.std.proofs.lemmas.Bool.Decides.{nat_tests, Decides-below_and}
+use Rattle.std.proofs.Common.{◌≡◌, ℕ, Bool, not, ◌||◌, arith}
+use Rattle.std.proofs.lemmas.Bool.Decides.{nat_tests}
 use Rattle.std.specs.List.{list_all, range_with_len}
 use Rattle.clock.specs.Clocks.{marked}
 use Rattle.rules.specs.declared.records.Transaction.{Transaction}
-use Rattle.rules.specs.World.{bit, all_below}
+use Rattle.rules.specs.World.{bit}
 use Rattle.rules.specs.Deciding.{all_voted}
 
 -- A node has voted if it is polled.

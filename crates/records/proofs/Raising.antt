@@ -4,8 +4,9 @@ use Rattle.std.proofs.lemmas.List.{get_or-set_same, get_or-set_other}
 use Rattle.std.proofs.lemmas.Bool.{cases_eq, cond-true, cond-false}
 use Rattle.clock.specs.Clocks.{marked}
 use Rattle.rules.specs.declared.records.Transaction.{Transaction}
+use Rattle.rules.specs.Changes.{has_no, has_yes, is_numbered}
 use Rattle.records.specs.Bounds.{count_below, is_committed, raised_by, ClockWithin, TransactionWithin, Raises}
-use Rattle.records.proofs.Bounded.{clock_more}
+use Rattle.records.proofs.Bounded.{clock_more, set_within, join_within}
 
 -- ── A mark more ──
 
@@ -65,3 +66,15 @@ module _ (b : ℕ) (x : Transaction) (p : ℕ) (within : TransactionWithin b x) 
           ),
         );
       }
+
+  pub no_raises : Raises b x (has_no p x)
+  no_raises = voted_raises (has_no p x) refl refl refl refl refl (still_within b x.numbers within.0.1) (still_within b x.votes within.0.2)
+
+  pub yes_raises : (seen : List ℕ) → ClockWithin b seen → Raises b x (has_yes p seen x)
+  yes_raises seen low =
+      voted_raises (has_yes p seen x) refl refl refl refl refl (still_within b x.numbers within.0.1) (still_within b (has_yes p seen x).votes (join_within b x.votes seen within.0.2 low))
+
+  pub numbered_yes_raises : (seen : List ℕ) (number : ℕ) → ClockWithin b seen → number ≤ b + 256 → Raises b x (is_numbered p number (has_yes p seen x))
+  numbered_yes_raises seen number low few =
+      voted_raises (is_numbered p number (has_yes p seen x)) refl refl refl refl refl (set_within (b + 256) x.numbers p number few (still_within b x.numbers within.0.1))
+      (still_within b (has_yes p seen x).votes (join_within b x.votes seen within.0.2 low))

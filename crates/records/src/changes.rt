@@ -37,11 +37,11 @@ pub fn new_transaction(kind: Kind) -> Transaction
     }
 }
 
-/// The transaction in another state. Where neither state is a commit, no number rises.
+/// Ends a transaction in a state. Where neither state is a commit, no number rises.
 #[tactic(auto, using(crate::proofs::Bounded::keeps_same))]
-pub fn ended(x: Transaction, state: State) -> Transaction
-    ensures value { result ≡ becomes state x }
-    ensures kept { is_committed x.state ≡ false → is_committed state ≡ false → Keeps x result }
+pub fn end(x: &mut Transaction, state: State)
+    ensures value { x.new ≡ becomes state x.old }
+    ensures kept { is_committed x.old.state ≡ false → is_committed state ≡ false → Keeps x.old x.new }
 {
-    Transaction { state, ..x }
+    x.state = state;
 }

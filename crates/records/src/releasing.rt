@@ -6,57 +6,45 @@ ghost use Rattle.rules.specs.Voting.{counted};
 ghost use Rattle.rules.specs.Applying.{has_seen, advanced};
 ghost use Rattle.records.specs.Bounds.{ClockWithin, NodeWithin, Keeps};
 
-use crate::rows::with_entry;
+use crate::rows::put_entry;
 use calls::sizes::{NodeNumber, Stamp};
 use clock::{Clock, join};
 use rules::records::{Node, Transaction};
 
-/// The transaction that a node has released.
+/// Marks that a transaction is no longer engaged at a node.
+fn disengage(x: &mut Transaction, p: NodeNumber)
+    ensures { x.new ≡ is_released p x.old }
+{
+    put_entry(&mut x.engaged, p, false);
+}
+
+/// Marks that a node has applied a transaction, and releases it there.
 #[tactic(auto, using(crate::proofs::Bounded::keeps_same))]
-fn disengaged(x: Transaction, p: NodeNumber) -> Transaction
-    ensures value { result ≡ is_released p x }
-    ensures kept { Keeps x result }
+pub fn apply(x: &mut Transaction, p: NodeNumber)
+    ensures value { x.new ≡ is_applied p (is_released p x.old) }
+    ensures kept { Keeps x.old x.new }
 {
-    Transaction {
-        engaged: with_entry(x.engaged, p, false),
-        ..x
-    }
+    disengage(x, p);
+    put_entry(&mut x.applied, p, true);
 }
 
-/// The transaction, applied at a node and released there.
-#[tactic(auto, unfolding(crate::specs::Bounds::raised_by))]
-pub fn applied(x: Transaction, p: NodeNumber) -> Transaction
-    ensures value { result ≡ is_applied p (is_released p x) }
-    ensures kept { Keeps x result }
+/// Marks that a node has learned the decision of a transaction, and releases it there.
+#[tactic(auto, using(crate::proofs::Bounded::keeps_same))]
+pub fn release(x: &mut Transaction, p: NodeNumber)
+    ensures value { x.new ≡ is_learned p (is_released p x.old) }
+    ensures kept { Keeps x.old x.new }
 {
-    Transaction {
-        applied: with_entry(x.applied, p, true),
-        ..disengaged(x, p)
-    }
+    disengage(x, p);
+    put_entry(&mut x.learned, p, true);
 }
 
-/// The transaction, whose decision a node learns and which it releases. It is `applied` at another row, and a row can't be a parameter.
-#[tactic(auto, unfolding(crate::specs::Bounds::raised_by))]
-pub fn released(x: Transaction, p: NodeNumber) -> Transaction
-    ensures value { result ≡ is_learned p (is_released p x) }
-    ensures kept { Keeps x result }
+/// Marks that a write node has learned the commit of a transaction: its number there becomes its stamp.
+pub fn learn_number(x: &mut Transaction, p: NodeNumber)
+    ensures value { x.new ≡ is_learned p (is_numbered p x.old.stamp x.old) }
+    ensures kept { Keeps x.old x.new }
 {
-    Transaction {
-        learned: with_entry(x.learned, p, true),
-        ..disengaged(x, p)
-    }
-}
-
-/// The transaction, whose commit a write node learns: its number there becomes its stamp.
-pub fn numbered(x: Transaction, p: NodeNumber) -> Transaction
-    ensures value { result ≡ is_learned p (is_numbered p x.stamp x) }
-    ensures kept { Keeps x result }
-{
-    Transaction {
-        learned: with_entry(x.learned, p, true),
-        numbers: with_entry(x.numbers, p, x.stamp),
-        ..x
-    }
+    put_entry(&mut x.numbers, p, x.stamp);
+    put_entry(&mut x.learned, p, true);
 }
 
 /// The node, with a counter of at least this.

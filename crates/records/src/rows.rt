@@ -20,14 +20,21 @@ pub fn is_there<T: Copy>(row: &[Option<T>], k: KeyNumber) -> bool
     row.get(usize::from(k)).is_some_and(|entry| entry.is_some())
 }
 
+/// Puts another entry at a place of a row.
+pub fn put_entry<T: Copy>(row: &mut [T], i: u8, entry: T)
+    ensures { row.new ≡ slice_set row.old i entry }
+{
+    if usize::from(i) < row.len() {
+        row[usize::from(i)] = entry;
+    }
+}
+
 /// The row with another entry at a place.
 pub fn with_entry<T: Copy, const N: usize>(row: [T; N], i: u8, entry: T) -> [T; N]
     ensures { result ≡ slice_set row i entry }
 {
     let mut after = row;
-    if usize::from(i) < N {
-        after[usize::from(i)] = entry;
-    }
+    put_entry(&mut after, i, entry);
     after
 }
 

@@ -37,9 +37,9 @@ stamped_within w x number b low clock votes =
     (λ q. cond_both (is_write_node w x q) number (slot (base_clock x) q) (λ (n : ℕ). n ≤ b) (λ e. low) (λ e. base q))
 
 module _ (w : World) (t : ℕ) (x : Transaction) where
-  -- The update committed, if the stamp fits.
-  abbrev outcome : Option Transaction
-  outcome = cond (ltb (stamp_of w t x) (2 ^ 32)) (Some (is_committed (stamp_of w t x) (stamped w x (stamp_of w t x)) x)) None
+  -- The update, committed.
+  abbrev committed : Transaction
+  committed = is_committed (stamp_of w t x) (stamped w x (stamp_of w t x)) x
 
   -- Under a bound on the numbers of the update it fits.
   module _ (b : ℕ) (small : t < 256) (clock : ClockWithin b x.clock) (numbers : ClockWithin b x.numbers) (votes : ClockWithin b x.votes) where
@@ -54,9 +54,10 @@ module _ (w : World) (t : ℕ) (x : Transaction) where
     pub stamp_there : (o : Option ℕ) → b + 256 < 2 ^ 32 → o ≡ if_fits (stamp_of w t x) → (o ≡ Some (stamp_of w t x)) × (stamp_of w t x ≤ b + 256)
     stamp_there o room told = (told ∙ cond-true (ltb (stamp_of w t x) (2 ^ 32)) (Some (stamp_of w t x)) None (fits room), stamp_low)
 
-    pub committed_there : (o : Option Transaction) → b + 256 < 2 ^ 32 → o ≡ outcome → (o ≡ Some (is_committed (stamp_of w t x) (stamped w x (stamp_of w t x)) x)) × (stamp_of w t x ≤ b + 256) × ((q : ℕ) → slot (stamped w x (stamp_of w t x)) q ≤ b + 256)
-    committed_there o room told = (
-      told ∙ cond-true (ltb (stamp_of w t x) (2 ^ 32)) (Some (is_committed (stamp_of w t x) (stamped w x (stamp_of w t x)) x)) None (fits room),
+    pub committed_there : (o : Option ℕ) (y : Transaction) → b + 256 < 2 ^ 32 → o ≡ if_fits (stamp_of w t x) → y ≡ cond (ltb (stamp_of w t x) (2 ^ 32)) committed x → (o ≡ Some (stamp_of w t x)) × (y ≡ committed) × (stamp_of w t x ≤ b + 256) × ((q : ℕ) → slot (stamped w x (stamp_of w t x)) q ≤ b + 256)
+    committed_there o y room told is = (
+      (stamp_there o room told).0,
+      is ∙ cond-true (ltb (stamp_of w t x) (2 ^ 32)) committed x (fits room),
       stamp_low,
       stamped_within w x (stamp_of w t x) (b + 256) stamp_low (λ q. let l = clock q in omega arith) (λ q. let l = votes q in omega arith),
     )

@@ -3,7 +3,7 @@
 //! Placement, transaction and node stay separate parameters, as in `keys`.
 #![tactic(auto)]
 
-ghost use Rattle.std.specs.Prelude.{◌≡◌, ℕ, ◌+◌, ◌^◌, ◌<◌, ◌≤◌, if◌then◌else◌, Some, None, nat_lt};
+ghost use Rattle.std.specs.Prelude.{◌≡◌, ℕ, ◌+◌, ◌^◌, ◌<◌, ◌≤◌, if◌then◌else◌, Some, nat_lt};
 ghost use Rattle.clock.specs.Numbers.{if_fits};
 ghost use Rattle.rules.specs.World.{World, bit, some_below, is_write_node};
 ghost use Rattle.rules.specs.Changes.{is_committed};
@@ -61,24 +61,15 @@ pub fn commit_clock_of(placement: &[u8], x: &Transaction, number: Stamp) -> Cloc
     from_fn(|q| commit_slot(nodes, q as NodeNumber, number, base[q]))
 }
 
-/// An update with its stamp and its commit clock.
-fn with_commit(x: Transaction, number: Stamp, commit: Clock) -> Transaction
-    ensures { result ≡ is_committed number commit x }
+/// Commits an update, and gives its stamp, if 32 bits hold it; else the update stays as it is. Its stamp and its commit clock are at most 256 above all numbers that they are made from.
+pub fn commit(placement: &[u8], t: TransactionNumber, x: &mut Transaction) -> Option<Stamp>
+    ensures answer { (w : World) → w.placement ≡ placement.now → result ≡ if_fits (stamp_of w t x.old) }
+    ensures value { (w : World) → w.placement ≡ placement.now → x.new ≡ (if nat_lt (stamp_of w t x.old) (2 ^ 32) then is_committed (stamp_of w t x.old) (stamped w x.old (stamp_of w t x.old)) x.old else x.old) }
+    ensures within { (w : World) → w.placement ≡ placement.now → (b : ℕ) → b + 256 < 2 ^ 32 → ClockWithin b x.old.clock → ClockWithin b x.old.numbers → ClockWithin b x.old.votes → (result ≡ Some (stamp_of w t x.old)) × (x.new ≡ is_committed (stamp_of w t x.old) (stamped w x.old (stamp_of w t x.old)) x.old) × (stamp_of w t x.old ≤ b + 256) × ClockWithin (b + 256) (stamped w x.old (stamp_of w t x.old)) }
 {
-    Transaction {
-        state: State::Committed,
-        stamp: number,
-        commit,
-        ..x
-    }
-}
-
-/// An update, committed, if 32 bits hold its stamp. Its stamp and its commit clock are at most 256 above all numbers that they are made from.
-pub fn committed(placement: &[u8], t: TransactionNumber, x: Transaction) -> Option<Transaction>
-    ensures value { (w : World) → w.placement ≡ placement.now → result ≡ (if nat_lt (stamp_of w t x) (2 ^ 32) then Some (is_committed (stamp_of w t x) (stamped w x (stamp_of w t x)) x) else None) }
-    ensures within { (w : World) → w.placement ≡ placement.now → (b : ℕ) → b + 256 < 2 ^ 32 → ClockWithin b x.clock → ClockWithin b x.numbers → ClockWithin b x.votes → (result ≡ Some (is_committed (stamp_of w t x) (stamped w x (stamp_of w t x)) x)) × (stamp_of w t x ≤ b + 256) × ClockWithin (b + 256) (stamped w x (stamp_of w t x)) }
-{
-    let number = stamp_of(placement, t, &x)?;
-    let commit = commit_clock_of(placement, &x, number);
-    Some(with_commit(x, number, commit))
+    let number = stamp_of(placement, t, x)?;
+    x.commit = commit_clock_of(placement, x, number);
+    x.state = State::Committed;
+    x.stamp = number;
+    Some(number)
 }

@@ -5,14 +5,14 @@ ghost use Rattle.store.specs.Model.{fresh};
 ghost use Rattle.rules.specs.World.{is_begun, node, transaction};
 ghost use Rattle.rules.specs.Applying.{applied_world, apply_call};
 ghost use Rattle.catalogue.specs.Tables.{world, world_of};
-ghost use Rattle.catalogue.specs.Recorded.{NodeRecorded, Recorded};
+ghost use Rattle.catalogue.specs.Recorded.{NodeRecorded};
 ghost use Rattle.catalogue.specs.Replies.{applied};
 
 use super::Catalogue;
 use calls::refusal::Refusal;
 use calls::sizes::{NodeNumber, TransactionNumber};
-use records::releasing::{advanced, applied};
-use rules::records::{Node, Transaction};
+use records::releasing::{advanced, apply};
+use rules::records::Node;
 use store::VersionStore;
 use voting::places::put_written;
 
@@ -24,23 +24,25 @@ impl<S: VersionStore> Catalogue<S> {
     {
         let n = self.table.node(p)?;
         let t = self.table.least_waiting(p).ok_or(Refusal::NothingToApply)?;
-        let x = *self.table.record(t);
+        let x = self.table.record(t);
         if !x.learned[usize::from(p)] {
             return Err(Refusal::NotLearned);
         }
-        self.install(t, p, x, n);
+        self.install(t, p, n);
         Ok(t)
     }
 
     /// Puts what an update wrote at a node, and releases the update there.
-    fn install(&mut self, t: TransactionNumber, p: NodeNumber, x: Transaction, n: Node)
-        requires record { Recorded self.old.table t x }
+    fn install(&mut self, t: TransactionNumber, p: NodeNumber, n: Node)
+        requires begun { is_begun (world_of self.old.table fresh) t ≡ true }
         requires node { NodeRecorded self.old.table p n }
-        ensures world { world S.meaning self.new ≡ applied_world (world S.meaning self.old) t p x }
+        ensures world { world S.meaning self.new ≡ applied_world (world S.meaning self.old) t p (transaction (world_of self.old.table fresh) t) }
         ensures rule { S.free self.new.store ≡ S.free self.old.store }
     {
-        put_written(self.table.placement(), &mut self.store, p, t, &x);
-        self.table.update(t, applied(x, p));
-        self.table.set_node(p, advanced(n, x.stamp, x.commit));
+        let x = self.table.record(t);
+        let (stamp, commit) = (x.stamp, x.commit);
+        put_written(self.table.placement(), &mut self.store, p, t, x);
+        self.table.update(t, |x| apply(x, p));
+        self.table.set_node(p, advanced(n, stamp, commit));
     }
 }

@@ -1,22 +1,17 @@
 //! Deciding.
 
-ghost use Rattle.std.specs.Prelude.{◌≡◌, true, false};
-ghost use Rattle.store.specs.Model.{fresh};
-ghost use Rattle.rules.specs.World.{is_begun, transaction, with_transaction};
-ghost use Rattle.rules.specs.Changes.{is_committed as has_committed};
-ghost use Rattle.rules.specs.Deciding.{stamp_of, stamped, decide_call};
-ghost use Rattle.records.specs.Bounds.{is_committed};
-ghost use Rattle.catalogue.specs.Tables.{world, world_of};
-ghost use Rattle.catalogue.specs.Recorded.{Recorded};
+ghost use Rattle.std.specs.Prelude.{◌≡◌};
+ghost use Rattle.rules.specs.Deciding.{decide_call};
+ghost use Rattle.catalogue.specs.Tables.{world};
 ghost use Rattle.catalogue.specs.Replies.{decided};
 
 use super::Catalogue;
 use crate::decision::Decision;
 use calls::refusal::Refusal;
-use calls::sizes::{Stamp, TransactionNumber};
-use records::changes::ended;
+use calls::sizes::TransactionNumber;
+use records::changes::end;
 use records::votes::all_voted;
-use rules::records::{Event, State, Transaction};
+use rules::records::{Event, State};
 use store::VersionStore;
 
 impl<S: VersionStore> Catalogue<S> {
@@ -27,28 +22,13 @@ impl<S: VersionStore> Catalogue<S> {
     {
         let x = self.table.asked(t, Event::Decide)?;
         if x.refused {
-            let y = ended(*x, State::Aborted);
-            self.table.update(t, y);
+            self.table.update(t, |x| end(x, State::Aborted));
             return Ok(Decision::Aborted);
         }
         if !all_voted(x) {
             return Err(Refusal::VotesOutstanding);
         }
-        let x = *x;
-        let stamp = self.commit(t, x);
+        let stamp = self.table.commit(t);
         Ok(Decision::Committed { stamp })
-    }
-
-    /// Commits an update that is not decided yet, and gives its stamp.
-    fn commit(&mut self, t: TransactionNumber, x: Transaction) -> Stamp
-        requires record { Recorded self.old.table t x }
-        requires undecided { is_committed x.state ≡ false }
-        ensures value { result ≡ stamp_of (world S.meaning self.old) t x }
-        ensures world { world S.meaning self.new ≡ with_transaction (world S.meaning self.old) t (has_committed (stamp_of (world S.meaning self.old) t x) (stamped (world S.meaning self.old) x (stamp_of (world S.meaning self.old) t x)) x) }
-        ensures rule { S.free self.new.store ≡ S.free self.old.store }
-    {
-        let y = self.table.committed(t, x);
-        self.table.raise(t, y);
-        y.stamp
     }
 }

@@ -6,7 +6,7 @@ ghost use Rattle.store.specs.Model.{fresh};
 ghost use Rattle.rules.specs.World.{is_begun, node, transaction};
 ghost use Rattle.rules.specs.Voting.{overtaken_key, vote, prepare_call};
 ghost use Rattle.catalogue.specs.Tables.{world, world_of};
-ghost use Rattle.catalogue.specs.Recorded.{NodeRecorded, Recorded};
+ghost use Rattle.catalogue.specs.Recorded.{NodeRecorded};
 ghost use Rattle.catalogue.specs.Replies.{vote_answer, voted};
 
 use super::Catalogue;
@@ -15,33 +15,34 @@ use calls::refusal::Refusal;
 use calls::sizes::{NodeNumber, TransactionNumber};
 use records::states::allow;
 use records::votes::is_polled;
-use rules::records::{Event, Node, Transaction};
+use rules::records::{Event, Node};
 use store::VersionStore;
 use voting::overtaking::overtaken;
 use voting::places::set_places;
 
 impl<S: VersionStore> Catalogue<S> {
     /// The vote of a node that may vote. It is a no where a key is overtaken, or where there is no place for a key.
-    fn vote(&mut self, t: TransactionNumber, x: Transaction, p: NodeNumber, n: Node) -> Vote
-        requires record { Recorded self.old.table t x }
+    fn vote(&mut self, t: TransactionNumber, p: NodeNumber, n: Node) -> Vote
+        requires begun { is_begun (world_of self.old.table fresh) t ≡ true }
         requires node { NodeRecorded self.old.table p n }
-        requires unvoted { marked x.voted p ≡ false }
-        ensures outcome { (vote_answer result, world S.meaning self.new) ≡ vote (S.free self.old.store) (world S.meaning self.old) t p x (overtaken_key (world S.meaning self.old) x p) }
+        requires unvoted { marked (transaction (world_of self.old.table fresh) t).voted p ≡ false }
+        ensures outcome { let x = transaction (world_of self.old.table fresh) t in (vote_answer result, world S.meaning self.new) ≡ vote (S.free self.old.store) (world S.meaning self.old) t p x (overtaken_key (world S.meaning self.old) x p) }
         ensures rule { S.free self.new.store ≡ S.free self.old.store }
     {
         let placement = self.table.placement();
-        if let Some(key) = overtaken(placement, &self.store, &x, p) {
-            self.table.vote_no(t, x, p);
+        let x = self.table.record(t);
+        if let Some(key) = overtaken(placement, &self.store, x, p) {
+            self.table.vote_no(t, p);
             return Vote::NoOvertaken { key };
         }
         // The store's refusal is a vote like the other.
-        match set_places(placement, &mut self.store, &x, p) {
+        match set_places(placement, &mut self.store, x, p) {
             Ok(()) => {
-                let number = self.table.vote_yes(t, x, p, n);
+                let number = self.table.vote_yes(t, p, n);
                 Vote::Yes { number }
             }
             Err(key) => {
-                self.table.vote_no(t, x, p);
+                self.table.vote_no(t, p);
                 Vote::NoPlace { key }
             }
         }
@@ -64,7 +65,6 @@ impl<S: VersionStore> Catalogue<S> {
         if self.table.is_busy(t, x, p) {
             return Err(Refusal::Busy);
         }
-        let x = *x;
-        Ok(self.vote(t, x, p, n))
+        Ok(self.vote(t, p, n))
     }
 }

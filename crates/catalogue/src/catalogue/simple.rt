@@ -8,7 +8,7 @@ ghost use Rattle.catalogue.specs.Replies.{begun, done};
 use super::Catalogue;
 use calls::refusal::Refusal;
 use calls::sizes::TransactionNumber;
-use records::changes::ended;
+use records::changes::end;
 use rules::records::{Event, Kind, State};
 use store::VersionStore;
 
@@ -32,8 +32,8 @@ impl<S: VersionStore> Catalogue<S> {
         ensures step { (done result, world S.meaning self.new) ≡ cancel_call (world S.meaning self.old) t }
         ensures rule { S.free self.new.store ≡ S.free self.old.store }
     {
-        let x = *self.table.asked(t, Event::Cancel)?;
-        self.table.update(t, ended(x, State::Aborted));
+        self.table.asked(t, Event::Cancel)?;
+        self.table.update(t, |x| end(x, State::Aborted));
         Ok(())
     }
 
@@ -42,8 +42,8 @@ impl<S: VersionStore> Catalogue<S> {
         ensures step { (done result, world S.meaning self.new) ≡ finish_call (world S.meaning self.old) t }
         ensures rule { S.free self.new.store ≡ S.free self.old.store }
     {
-        let x = *self.table.asked(t, Event::Finish)?;
-        self.table.update(t, ended(x, State::Finished));
+        self.table.asked(t, Event::Finish)?;
+        self.table.update(t, |x| end(x, State::Finished));
         Ok(())
     }
 }

@@ -1,6 +1,7 @@
 //! The parts of a catalogue's tables, read and written.
 
 ghost use Rattle.std.specs.Prelude.{◌≡◌, ℕ, ◌+◌, ◌-◌, ◌<◌, ◌≤◌, true, false, ◌||◌, [], ◌∷◌, ◌++◌, length, IfOk, if◌then◌else◌, None, Ok, Err, vec_len, MatchResult, nat_lt, slice_index_or, slice_set};
+ghost use Rattle.std.specs.Fn.{FnOnceReturnsAtMut};
 ghost use Rattle.calls.specs.declared.answer.Answer.TheVariants.{Done};
 ghost use Rattle.calls.specs.declared.refusal.Refusal.TheVariants.{TooManyKeysWritten, NoSuchTransaction, NoSuchNode, NoSuchKey, WrongState};
 ghost use Rattle.store.specs.Model.{Meaning, fresh};
@@ -173,47 +174,63 @@ impl Table {
         holds(&self.placement, p, k)
     }
 
-    // Three names for one replacement, `set_transaction`: one name would have to ask and promise all that the three do, by cases.
+    // Three names for one change, `change`: one name would have to ask and promise all that the three do, by cases.
 
-    /// Replaces the record of a transaction by one that raised no number.
-    pub(crate) fn update(&mut self, t: TransactionNumber, x: Transaction)
+    /// Changes the record of a transaction in place, which raises no number.
+    pub(crate) fn update<A, F: FnOnce(&mut Transaction) -> A>(
+        &mut self,
+        t: TransactionNumber,
+        change: F,
+    ) -> A
         requires begun { is_begun (world_of self.old fresh) t ≡ true }
-        requires kept { Keeps (transaction (world_of self.old fresh) t) x }
-        ensures replaced { TransactionReplaced self.old self.new t x }
+        requires callable { F.IsAlwaysCallable change }
+        requires kept { let x = transaction (world_of self.old fresh) t in (a : A) (y : Transaction) → FnOnceReturnsAtMut F.FnOnce change x a y → Keeps x y }
+        ensures changed { (y : Transaction) × FnOnceReturnsAtMut F.FnOnce change (transaction (world_of self.old fresh) t) result y × TransactionReplaced self.old self.new t y }
         ensures bound { most self.new.transactions.items ≡ most self.old.transactions.items }
     {
-        self.set_transaction(t, x);
+        self.change(t, change)
     }
 
-    /// Replaces the record of a transaction by one whose numbers stand in the tables already.
-    pub(crate) fn update_within(&mut self, t: TransactionNumber, x: Transaction)
+    /// Changes the record of a transaction in place to one whose numbers stand in the tables already.
+    pub(crate) fn update_within<A, F: FnOnce(&mut Transaction) -> A>(
+        &mut self,
+        t: TransactionNumber,
+        change: F,
+    ) -> A
         requires begun { is_begun (world_of self.old fresh) t ≡ true }
-        requires same { raised_by x ≡ raised_by (transaction (world_of self.old fresh) t) }
-        requires within { TransactionWithin (most self.old.transactions.items) x }
-        ensures replaced { TransactionReplaced self.old self.new t x }
+        requires callable { F.IsAlwaysCallable change }
+        requires same { let x = transaction (world_of self.old fresh) t in (a : A) (y : Transaction) → FnOnceReturnsAtMut F.FnOnce change x a y → raised_by y ≡ raised_by x }
+        requires within { let x = transaction (world_of self.old fresh) t in (a : A) (y : Transaction) → FnOnceReturnsAtMut F.FnOnce change x a y → TransactionWithin (most self.old.transactions.items) y }
+        ensures changed { (y : Transaction) × FnOnceReturnsAtMut F.FnOnce change (transaction (world_of self.old fresh) t) result y × TransactionReplaced self.old self.new t y }
         ensures bound { most self.new.transactions.items ≡ most self.old.transactions.items }
     {
-        self.set_transaction(t, x);
+        self.change(t, change)
     }
 
-    /// Replaces the record of a transaction by one that raised a number, by a vote or a commit.
-    pub(crate) fn raise(&mut self, t: TransactionNumber, x: Transaction)
+    /// Changes the record of a transaction in place, which raises a number once, by a vote or a commit.
+    pub(crate) fn raise<A, F: FnOnce(&mut Transaction) -> A>(
+        &mut self,
+        t: TransactionNumber,
+        change: F,
+    ) -> A
         requires begun { is_begun (world_of self.old fresh) t ≡ true }
-        requires raised { Raises (most self.old.transactions.items) (transaction (world_of self.old fresh) t) x }
-        ensures replaced { TransactionReplaced self.old self.new t x }
+        requires callable { F.IsAlwaysCallable change }
+        requires raised { let x = transaction (world_of self.old fresh) t in (a : A) (y : Transaction) → FnOnceReturnsAtMut F.FnOnce change x a y → TransactionWithin (most self.old.transactions.items) x → Raises (most self.old.transactions.items) x y }
+        ensures changed { (y : Transaction) × FnOnceReturnsAtMut F.FnOnce change (transaction (world_of self.old fresh) t) result y × TransactionReplaced self.old self.new t y }
         ensures bound { most self.new.transactions.items ≡ most self.old.transactions.items + 256 }
     {
-        self.set_transaction(t, x);
+        self.change(t, change)
     }
 
-    /// Replaces the record of a transaction, which must not have taken back a vote or a commit.
-    fn set_transaction(&mut self, t: TransactionNumber, x: Transaction)
+    /// Changes the record of a transaction in place, which must not take back a vote or a commit.
+    fn change<A, F: FnOnce(&mut Transaction) -> A>(&mut self, t: TransactionNumber, change: F) -> A
         requires begun { is_begun (world_of self.old fresh) t ≡ true }
-        requires grows { raised_by (transaction (world_of self.old fresh) t) ≤ raised_by x }
-        requires within { TransactionWithin (most (slice_set self.old.transactions.items (t - 1) x)) x }
-        ensures { TransactionReplaced self.old self.new t x }
+        requires callable { F.IsAlwaysCallable change }
+        requires grows { let x = transaction (world_of self.old fresh) t in (a : A) (y : Transaction) → FnOnceReturnsAtMut F.FnOnce change x a y → raised_by x ≤ raised_by y }
+        requires within { let x = transaction (world_of self.old fresh) t in (a : A) (y : Transaction) → FnOnceReturnsAtMut F.FnOnce change x a y → TransactionWithin (most (slice_set self.old.transactions.items (t - 1) y)) y }
+        ensures { (y : Transaction) × FnOnceReturnsAtMut F.FnOnce change (transaction (world_of self.old fresh) t) result y × TransactionReplaced self.old self.new t y }
     {
-        self.transactions[usize::from(t) - 1] = x;
+        change(&mut self.transactions[usize::from(t) - 1])
     }
 
     /// Replaces the record of a node.

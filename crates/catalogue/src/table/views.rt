@@ -1,14 +1,13 @@
 //! What the tables say of a transaction and of a node.
 
-ghost use Rattle.std.specs.Prelude.{◌≡◌, true, false, IfSome};
+ghost use Rattle.std.specs.Prelude.{◌≡◌, true, IfSome};
 ghost use Rattle.store.specs.Model.{Meaning, fresh};
 ghost use Rattle.rules.specs.World.{is_begun, transaction, is_write_node};
-ghost use Rattle.rules.specs.Changes.{is_committed as has_committed};
 ghost use Rattle.rules.specs.Reading.{clock_after};
 ghost use Rattle.rules.specs.Voting.{busy};
-ghost use Rattle.rules.specs.Deciding.{polled_byte, stamp_of, stamped};
+ghost use Rattle.rules.specs.Deciding.{polled_byte};
 ghost use Rattle.rules.specs.Applying.{least_waiting};
-ghost use Rattle.records.specs.Bounds.{is_committed, most, ClockWithin, Raises};
+ghost use Rattle.records.specs.Bounds.{most, ClockWithin};
 ghost use Rattle.catalogue.specs.Tables.{world_of};
 
 use super::Table;
@@ -17,7 +16,6 @@ use clock::Clock;
 use keys::polling::polled;
 use keys::writing::writes_at;
 use rules::records::Transaction;
-use stamping::committed;
 use visibility::clock_after;
 use voting::busy::is_busy;
 use voting::waiting::least_waiting;
@@ -74,15 +72,5 @@ impl Table {
         ensures begun { IfSome result (λ t. is_begun (world_of self.now fresh) t ≡ true) }
     {
         least_waiting(&self.transactions, &self.placement, p)
-    }
-
-    /// An update that is not decided yet, committed.
-    pub(crate) fn committed(&self, t: TransactionNumber, x: Transaction) -> Transaction
-        requires undecided { is_committed x.state ≡ false }
-        requires record { x ≡ transaction (world_of self.now fresh) t }
-        ensures value { (m : Meaning) → result ≡ has_committed (stamp_of (world_of self.now m) t x) (stamped (world_of self.now m) x (stamp_of (world_of self.now m) t x)) x }
-        ensures raised { Raises (most self.now.transactions.items) x result }
-    {
-        committed(&self.placement, t, x).unwrap()
     }
 }

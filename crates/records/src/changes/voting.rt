@@ -5,45 +5,37 @@ ghost use Rattle.clock.specs.Clocks.{marked};
 ghost use Rattle.rules.specs.Changes.{has_no, has_yes, is_numbered};
 ghost use Rattle.records.specs.Bounds.{ClockWithin, TransactionWithin, Raises};
 
-use crate::rows::with_entry;
+use crate::rows::put_entry;
 use calls::sizes::{NodeNumber, Stamp};
 use clock::{Clock, join};
 use rules::records::Transaction;
 
 // That the node has not voted is a premise of each: it is said of a record and a node at one moment, and the record may be voted on by others.
 
-/// The transaction after a node's no.
-pub fn voted_no(x: Transaction, p: NodeNumber) -> Transaction
-    ensures value { result ≡ has_no p x }
-    ensures raised { (b : ℕ) → p < 8 → marked x.voted p ≡ false → TransactionWithin b x → Raises b x result }
+/// Takes a node's no.
+pub fn vote_no(x: &mut Transaction, p: NodeNumber)
+    ensures value { x.new ≡ has_no p x.old }
+    ensures raised { (b : ℕ) → p < 8 → marked x.old.voted p ≡ false → TransactionWithin b x.old → Raises b x.old x.new }
 {
-    Transaction {
-        voted: with_entry(x.voted, p, true),
-        refused: true,
-        ..x
-    }
+    put_entry(&mut x.voted, p, true);
+    x.refused = true;
 }
 
-/// The transaction after a node's yes, which carries the node's seen clock.
-pub fn voted_yes(x: Transaction, p: NodeNumber, seen: Clock) -> Transaction
-    ensures value { result ≡ has_yes p seen x }
-    ensures raised { (b : ℕ) → p < 8 → marked x.voted p ≡ false → TransactionWithin b x → ClockWithin b seen → Raises b x result }
+/// Takes a node's yes, which carries the node's seen clock.
+pub fn vote_yes(x: &mut Transaction, p: NodeNumber, seen: Clock)
+    ensures value { x.new ≡ has_yes p seen x.old }
+    ensures raised { (b : ℕ) → p < 8 → marked x.old.voted p ≡ false → TransactionWithin b x.old → ClockWithin b seen → Raises b x.old x.new }
 {
-    Transaction {
-        voted: with_entry(x.voted, p, true),
-        engaged: with_entry(x.engaged, p, true),
-        votes: join(x.votes, seen),
-        ..x
-    }
+    put_entry(&mut x.voted, p, true);
+    put_entry(&mut x.engaged, p, true);
+    x.votes = join(x.votes, seen);
 }
 
-/// The transaction after a node's yes that gave it a number.
-pub fn numbered_yes(x: Transaction, p: NodeNumber, seen: Clock, number: Stamp) -> Transaction
-    ensures value { result ≡ is_numbered p number (has_yes p seen x) }
-    ensures raised { (b : ℕ) → p < 8 → marked x.voted p ≡ false → TransactionWithin b x → ClockWithin b seen → number ≤ b + 256 → Raises b x result }
+/// Takes a node's yes that gives the transaction a number.
+pub fn vote_yes_with_number(x: &mut Transaction, p: NodeNumber, seen: Clock, number: Stamp)
+    ensures value { x.new ≡ is_numbered p number (has_yes p seen x.old) }
+    ensures raised { (b : ℕ) → p < 8 → marked x.old.voted p ≡ false → TransactionWithin b x.old → ClockWithin b seen → number ≤ b + 256 → Raises b x.old x.new }
 {
-    Transaction {
-        numbers: with_entry(x.numbers, p, number),
-        ..voted_yes(x, p, seen)
-    }
+    vote_yes(x, p, seen);
+    put_entry(&mut x.numbers, p, number);
 }

@@ -1,14 +1,19 @@
-use Rattle.std.proofs.Common.{ℕ, sym, ap, ◌∙◌, subst}
+use Rattle.std.proofs.Common.{ℕ, sym, ap, ◌∙◌, subst, arith}
 use Rattle.records.specs.Bounds.{most, TransactionWithin}
 use Rattle.catalogue.proofs.Replacing.{kept_bound}
 use Rattle.catalogue.proofs.table.Table.update_within.Goals as goal
 
-pub set_transaction-requires-clause-within : goal.set_transaction-requires-clause-within
-set_transaction-requires-clause-within c =
-    let bound = kept_bound c.args.self.now c.args.t c.args.x c.requires.begun c.requires.same in
-    subst (λ (b : ℕ). TransactionWithin b c.args.x) (sym bound) c.requires.within
+pub change-requires-clause-grows : goal.change-requires-clause-grows
+change-requires-clause-grows g c = λ a y changed. let same = c.requires.same a y changed in omega arith
+
+pub change-requires-clause-within : goal.change-requires-clause-within
+change-requires-clause-within g c = λ a y changed.
+    let bound = kept_bound c.args.self.now c.args.t y c.requires.begun (c.requires.same a y changed) in
+    subst (λ (b : ℕ). TransactionWithin b y) (sym bound) (c.requires.within a y changed)
 
 pub returns-clause-bound : goal.returns-clause-bound
-returns-clause-bound c =
-    ap most c.set_transaction.ensures.transactions
-    ∙ kept_bound c.args.self.now c.args.t c.args.x c.requires.begun c.requires.same
+returns-clause-bound g c =
+    let y = c.change.ensures.0 in
+    let changed = c.change.ensures.1 in
+    ap most c.change.ensures.2.transactions
+    ∙ kept_bound c.args.self.now c.args.t y c.requires.begun (c.requires.same c.change.result y changed)
