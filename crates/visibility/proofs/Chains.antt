@@ -120,3 +120,7 @@ seen_of found row read clock after w m p k r node key holds rows clocks is =
     ∙ ap (λ (marks : List Bool). found (λ v. passes marks (commit_clock w v.writer) clock) (chain m p k)) rows
     ∙ ap (λ (c : List ℕ). found (λ v. passes row (commit_clock w v.writer) c) (chain m p k)) clocks
     ∙ ap (found (λ v. passes row (commit_clock w v.writer) after)) (chain_there m p k node key ∙ ap (λ (held : Meaning). (held p k).versions) (sym holds))
+
+-- The same with the clock that was given, over the chain that the store answers from.
+pub seen_by : {A : Type 0} (found : (Version → Bool) → List Version → A) (row : List Bool) (read : List Bool) (clock : List ℕ) (w : World) (m : Meaning) (p k : ℕ) (r : A) → read ≡ row → r ≡ found (λ v. passes read (commit_clock w v.writer) clock) (chain m p k) → r ≡ found (λ v. passes row (commit_clock w v.writer) clock) (chain m p k)
+seen_by found row read clock w m p k r rows is = is ∙ ap (λ (marks : List Bool). found (λ v. passes marks (commit_clock w v.writer) clock) (chain m p k)) rows

@@ -117,7 +117,8 @@ fn read_after(x: &Transaction, p: NodeNumber) -> NodeMarks
     with_entry(x.read, p, true)
 }
 
-/// The version of a key that a transaction sees at a node, with the clock that it has after a read there.
+/// The version of a key that a transaction sees at a node, with the clock that it has after a read there. The last two clauses hold for any clock, node and
+/// key: past the last node or key it sees the first version.
 pub fn visible<S: VersionStore>(
     transactions: &[Transaction],
     store: &S,
@@ -128,6 +129,8 @@ pub fn visible<S: VersionStore>(
 ) -> Seen
     ensures version { (w : World) → w.transactions ≡ transactions.now → w.store ≡ S.meaning store.now → clock ≡ clock_after w x.now p → p < 8 → k < 64 → result.version ≡ visible w x.now k p }
     ensures newest { (w : World) → w.transactions ≡ transactions.now → w.store ≡ S.meaning store.now → clock ≡ clock_after w x.now p → p < 8 → k < 64 → result.newest ≡ newest_passes (version_passes w x.now p) (w.store p k).versions }
+    ensures any_version { (w : World) → w.transactions ≡ transactions.now → result.version ≡ newest_passing (λ v. passes (slice_set x.now.read p true) (commit_clock w v.writer) clock) (if in_range p k then (S.meaning store.now p k).versions else []) }
+    ensures any_newest { (w : World) → w.transactions ≡ transactions.now → result.newest ≡ newest_passes (λ v. passes (slice_set x.now.read p true) (commit_clock w v.writer) clock) (if in_range p k then (S.meaning store.now p k).versions else []) }
 {
     newest_passing(transactions, store, read_after(x, p), clock, k, p)
 }
