@@ -1,5 +1,5 @@
 -- A tape that is run on a new unit: what each record is answered, and what is promised of the whole.
-use Rattle.std.specs.Prelude.{◌≡◌, ℕ, cond, List, [], ◌∷◌, Some, None, Ok, Err, Option}
+use Rattle.std.specs.Prelude.{◌≡◌, ℕ, Bool, false, cond, List, [], ◌∷◌, Some, None, Ok, Err, Option}
 use Rattle.calls.specs.declared.answer.Answer.{Answer}
 use Rattle.calls.specs.declared.answer.Answer.TheVariants.{Done, Refused}
 use Rattle.calls.specs.declared.refusal.Refusal.TheVariants.{MakeOutOfBounds, MakeOutOfOrder}
@@ -40,6 +40,26 @@ first_step (cancel t) = too_early
 first_step (learn t p) = too_early
 first_step (apply p) = too_early
 first_step (finish t) = too_early
+
+-- A make that can be made. No other request to a unit takes memory.
+abbrev pub can_be_made : Request → Bool
+can_be_made (make nodes keys placement) = can_make nodes keys placement
+can_be_made (begin mode) = false
+can_be_made (read t k p) = false
+can_be_made (write t k value) = false
+can_be_made (offer t) = false
+can_be_made (prepare t p) = false
+can_be_made (decide t) = false
+can_be_made (cancel t) = false
+can_be_made (learn t p) = false
+can_be_made (apply p) = false
+can_be_made (finish t) = false
+
+-- A record that makes the catalogue of a unit.
+abbrev pub makes_catalogue : Option World → Content → Bool
+makes_catalogue None (Ok request) = can_be_made request
+makes_catalogue None (Err refusal) = false
+makes_catalogue (Some w) content = false
 
 -- Any request to a unit. Where its catalogue is made, the catalogue answers; it refuses a second make as one out of order.
 abbrev pub unit_step : FreeRule → Option World → Request → UnitOutcome

@@ -1,14 +1,14 @@
 //! A tape run on a new unit, over any store.
 #![tactic(auto)]
 
-ghost use Rattle.std.specs.Prelude.{◌≡◌, map, IfOk};
+ghost use Rattle.std.specs.Prelude.{◌≡◌, true, map, IfOk, OnErr, MatchResult};
 ghost use Rattle.std.specs.Option.{option_map};
 ghost use Rattle.calls.specs.Requests.{request};
 ghost use Rattle.tape.specs.Reading.{requested};
 ghost use Rattle.tape.specs.Records.{entry_of};
 ghost use Rattle.store.specs.Model.{FreeRule};
 ghost use Rattle.catalogue.specs.Tables.{world};
-ghost use Rattle.runner.specs.Running.{first_step, on_content, CountsBy, RecordsRun, TapeRun, TapeTold};
+ghost use Rattle.runner.specs.Running.{can_be_made, first_step, makes_catalogue, on_content, CountsBy, RecordsRun, TapeRun, TapeTold};
 
 use calls::answer::Answer;
 use calls::call::Call;
@@ -28,12 +28,13 @@ pub struct Report<S: VersionStore> {
     pub catalogue: Option<Catalogue<S>>,
 }
 
-/// Answers a call to a unit whose catalogue is not made, and makes it where the call is a make that can be made.
+/// Answers a call to a unit whose catalogue is not made, and makes it where the call is a make that can be made. Memory can be
+/// wanting for no other call.
 fn first_call<S: VersionStore>(
     heap: Global,
     call: &Call<'_>,
 ) -> Result<(Answer, Option<Catalogue<S>>), AllocError>
-    ensures { IfOk result (λ o. (o.0, option_map (world S.meaning) o.1) ≡ first_step (request call.now)) }
+    ensures { MatchResult result (λ o. (o.0, option_map (world S.meaning) o.1) ≡ first_step (request call.now)) (λ _. can_be_made (request call.now) ≡ true) }
 {
     let Call::Make {
         nodes,
@@ -52,7 +53,7 @@ fn first_call<S: VersionStore>(
     }
 }
 
-/// Answers a record.
+/// Answers a record. Memory can be wanting only for one that makes the unit's catalogue.
 fn on_record<S: VersionStore>(
     heap: Global,
     unit: &mut Option<Catalogue<S>>,
@@ -60,6 +61,7 @@ fn on_record<S: VersionStore>(
 ) -> Result<Answer, AllocError>
     ensures step { IfOk result (λ a. (free : FreeRule) → CountsBy (λ c. S.free c.store) free unit.old → (a, option_map (world S.meaning) unit.new) ≡ on_content free (option_map (world S.meaning) unit.old) (requested content.now)) }
     ensures rule { IfOk result (λ a. (free : FreeRule) → CountsBy (λ c. S.free c.store) free unit.new → CountsBy (λ c. S.free c.store) free unit.old) }
+    ensures memory { OnErr result (makes_catalogue (option_map (world S.meaning) unit.old) (requested content.now) ≡ true) }
 {
     // A refused record is answered; it is no error of the run.
     let call = match content {
