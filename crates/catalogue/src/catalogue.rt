@@ -1,4 +1,4 @@
-//! A catalogue.
+//! The catalogue as a type: its tables, and a store beside them.
 
 use crate::table::Table;
 use store::VersionStore;
@@ -11,7 +11,7 @@ pub mod reading;
 pub mod simple;
 pub mod updating;
 
-/// A catalogue over a version store.
+/// A catalogue over a version store. What it answers and does is said by the contracts of its calls, over the `world` that both parts stand for.
 #[derive(Drop)]
 pub struct Catalogue<S: VersionStore> {
     pub(crate) table: Table,

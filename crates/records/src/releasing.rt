@@ -18,6 +18,8 @@ fn disengage(x: &mut Transaction, p: NodeNumber)
     put_entry(&mut x.engaged, p, false);
 }
 
+// `apply` and `release` are two lines each, which differ in the row that they mark; each has a definition of its own in the rules.
+
 /// Marks that a node has applied a transaction, and releases it there.
 #[tactic(auto, using(crate::proofs::Bounded::keeps_same))]
 pub fn apply(x: &mut Transaction, p: NodeNumber)

@@ -38,26 +38,38 @@ pub fn commit_clock(transactions: &[Transaction], writer: TransactionNumber) -> 
     }
 }
 
-/// A clock with the commit clock of one more transaction, where that is applied at a node and passes.
-fn with_passing(x: &Transaction, p: NodeNumber, joined: Clock, u: &Transaction) -> Clock
-    ensures { result ≡ with_passing x.now.read x.now.clock p joined u.now }
+/// A clock with the commit clock of one more transaction, where that is applied at a node and passes for a transaction that has read at these nodes and has this clock.
+fn with_passing(
+    read: NodeMarks,
+    clock: Clock,
+    p: NodeNumber,
+    joined: Clock,
+    u: &Transaction,
+) -> Clock
+    ensures { result ≡ with_passing read clock p joined u.now }
 {
-    if is_marked(&u.applied, p) && passes(x.read, u.commit, x.clock) {
+    if is_marked(&u.applied, p) && passes(read, u.commit, clock) {
         join(joined, u.commit)
     } else {
         joined
     }
 }
 
-/// The clock of a transaction with the commit clocks of all updates applied at a node that pass.
-fn with_all_passing(x: &Transaction, p: NodeNumber, transactions: &[Transaction]) -> Clock
-    ensures { result ≡ fold (with_passing x.now.read x.now.clock p) x.now.clock transactions.now }
+/// The clock of a transaction with the commit clocks of all updates applied at a node that pass. Marks and clock are given as values: lent, they would be looked up again for
+/// each update.
+fn with_all_passing(
+    read: NodeMarks,
+    clock: Clock,
+    p: NodeNumber,
+    transactions: &[Transaction],
+) -> Clock
+    ensures { result ≡ fold (with_passing read clock p) clock transactions.now }
 {
-    let mut joined = x.clock;
+    let mut joined = clock;
     // A loop and no `fold`: this place keeps its form (docs/DECISIONS.md, "Some places keep one form").
     for u in transactions {
         // The proof does not cover a call whose array is laid straight into `joined`.
-        let next = with_passing(x, p, joined, u);
+        let next = with_passing(read, clock, p, joined, u);
         joined = next;
     }
     joined
@@ -72,7 +84,7 @@ pub fn clock_after(x: &Transaction, p: NodeNumber, transactions: &[Transaction])
     if is_marked(&x.read, p) {
         x.clock
     } else {
-        with_all_passing(x, p, transactions)
+        with_all_passing(x.read, x.clock, p, transactions)
     }
 }
 

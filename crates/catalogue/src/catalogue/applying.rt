@@ -1,4 +1,4 @@
-//! Applying.
+//! Apply: a node installs the update that waits there with the least number.
 
 ghost use Rattle.std.specs.Prelude.{◌≡◌, ◌<◌, true};
 ghost use Rattle.store.specs.Model.{fresh};

@@ -1,4 +1,4 @@
-//! Deciding.
+//! Decide: an update is committed or aborted by the votes of its nodes.
 
 ghost use Rattle.std.specs.Prelude.{◌≡◌};
 ghost use Rattle.rules.specs.Deciding.{decide_call};

@@ -1,4 +1,4 @@
-//! Learning a decision.
+//! Learn: a node is told what was decided.
 
 ghost use Rattle.std.specs.Prelude.{◌≡◌, ◌<◌, true};
 ghost use Rattle.store.specs.Model.{fresh};

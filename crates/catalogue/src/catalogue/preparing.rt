@@ -1,4 +1,4 @@
-//! The vote of a node.
+//! Prepare: a node is asked for its vote.
 
 ghost use Rattle.std.specs.Prelude.{◌≡◌, ◌<◌, true, false};
 ghost use Rattle.clock.specs.Clocks.{marked};
