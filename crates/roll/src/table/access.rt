@@ -70,6 +70,7 @@ impl Roll {
         for _ in 0..steps {
             place = self.entries[place?].older;
         }
+        // No `map_or`: its closure would need a clause of its own on `i`.
         match place {
             Some(i) => Some(self.entries[i].version),
             None => Some(FIRST_VERSION),
