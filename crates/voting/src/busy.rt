@@ -21,9 +21,11 @@ fn conflict_at(
 ) -> bool
     ensures { (w : World) → w.placement ≡ placement.now → result ≡ conflict_at w x.now other.now p k }
 {
+    // That most keys are neither noted nor written by `x` is looked at first.
     let writes = has_written(x, k);
-    let others_write = has_written(other, k) && (has_noted(x, k) || writes);
-    holds(placement, p, k) && (others_write || (has_noted(other, k) && writes))
+    (has_noted(x, k) || writes)
+        && holds(placement, p, k)
+        && (has_written(other, k) || (has_noted(other, k) && writes))
 }
 
 /// Whether the update with the number `u` is another than `t`. Not inlined: the compiler would compare the numbers of all transactions, of which few are engaged.
