@@ -8,5 +8,5 @@ set_node-requires-else-writes_at g c =
     let table = c.args.self.now.table in
     let b = most table.transactions.items in
     let node = node_known table c.args.p c.args.n c.requires.node.record_is in
-    let seen = c.has_seen.ensures.within b node (search (node.2, c.record-x.ensures.within.1.0)) in
+    let seen = c.has_seen.ensures.within b node (search (c.record-x.ensures.within.1.0)) in
     subst (λ (m : ℕ). NodeWithin m c.has_seen.result) (sym c.update-else-writes_at.ensures.bound) seen
