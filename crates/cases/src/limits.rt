@@ -34,7 +34,7 @@ pub(crate) fn damaged(rt: &HostRuntime) -> anyhow::Result<()> {
     show_tape(rt, "a tape that is too long", long.as_slice(), 0)
 }
 
-/// Prints what the writer answers to some calls, with a buffer of six bytes.
+/// Prints what the writer answers to some calls, with a buffer of six bytes. (`showtape` has one that prints the buffer too; a program is no library for another.)
 fn show_written(rt: &HostRuntime, calls: &[Call<'_>]) -> anyhow::Result<()> {
     let mut buffer = [0u8; 6];
     match write_tape(calls, &mut buffer) {

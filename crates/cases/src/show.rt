@@ -21,6 +21,8 @@ fn listed<S: VersionStore>(heap: Global, tape: &[u8], skipped: usize) -> anyhow:
     Ok(text)
 }
 
+// The runtime and a title stay two parameters of the functions that print a case: each prints the one and hands on the other.
+
 /// Prints a title, and a tape's listing over the shelf, without its first lines. Where the roll gives another listing, prints that too.
 pub(crate) fn show_tape(
     rt: &HostRuntime,

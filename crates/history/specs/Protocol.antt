@@ -185,132 +185,84 @@ module _ (s : State) where
 
 -- it begins as a Search or as an update
 abbrev pub begins : Kind → Bool → Transaction → Transaction
-begins a here x = record {
-  kind = cond here a x.kind;
-  status = cond here Open x.status;
-  reading = x.reading;
-  writing = x.writing;
-  outcome = x.outcome;
-}
+begins a here x = record x { kind = cond here a x.kind; status = cond here Open x.status }
 
 -- its status is now a
 abbrev pub becomes : Status → Bool → Transaction → Transaction
-becomes a here x = record {
-  kind = x.kind;
-  status = cond here a x.status;
-  reading = x.reading;
-  writing = x.writing;
-  outcome = x.outcome;
-}
+becomes a here x = record x { status = cond here a x.status }
 
 -- it has read at p, and its clock is now c
 abbrev pub reads : ℕ → Clock → Bool → Transaction → Transaction
-reads p c here x = record {
-  kind = x.kind;
-  status = x.status;
-  reading = record { clock = cond here c x.reading.clock; read_at = λ q. cond (here && p == q) true (x.reading.read_at q); noted = x.reading.noted; noted_writer = x.reading.noted_writer };
-  writing = x.writing;
-  outcome = x.outcome;
-}
+reads p c here x = record x { reading = record x.reading { clock = cond here c x.reading.clock; read_at = λ q. cond (here && p == q) true (x.reading.read_at q) } }
 
 -- it has noted k, with the writer w
 abbrev pub notes : ℕ → ℕ → Bool → Transaction → Transaction
-notes k w here x = record {
-  kind = x.kind;
-  status = x.status;
-  reading = record { clock = x.reading.clock; read_at = x.reading.read_at; noted = λ j. cond (here && k == j) true (x.reading.noted j); noted_writer = λ j. cond (here && k == j) w (x.reading.noted_writer j) };
-  writing = x.writing;
-  outcome = x.outcome;
-}
+notes k w here x = record x { reading = record x.reading { noted = λ j. cond (here && k == j) true (x.reading.noted j); noted_writer = λ j. cond (here && k == j) w (x.reading.noted_writer j) } }
 
 -- it holds the value v for k, in place of an earlier one
 abbrev pub writes : ℕ → ℕ → Bool → Transaction → Transaction
-writes k v here x = record {
-  kind = x.kind;
-  status = x.status;
-  reading = x.reading;
-  writing = record { wrote = λ j. cond (here && k == j) true (x.writing.wrote j); value = λ j. cond (here && k == j) v (x.writing.value j) };
-  outcome = x.outcome;
-}
+writes k v here x = record x { writing = record { wrote = λ j. cond (here && k == j) true (x.writing.wrote j); value = λ j. cond (here && k == j) v (x.writing.value j) } }
 
 -- a node has voted no on it
 abbrev pub is_refused : Bool → Transaction → Transaction
-is_refused here x = record {
-  kind = x.kind;
-  status = x.status;
-  reading = x.reading;
-  writing = x.writing;
-  outcome = record { refused = cond here true x.outcome.refused; vote_clock = x.outcome.vote_clock; stamp = x.outcome.stamp; commit_clock = x.outcome.commit_clock };
-}
+is_refused here x = record x { outcome = record x.outcome { refused = cond here true x.outcome.refused } }
 
 -- the join of the clocks that its votes carried is now c
 abbrev pub joins_votes : Clock → Bool → Transaction → Transaction
-joins_votes c here x = record {
-  kind = x.kind;
-  status = x.status;
-  reading = x.reading;
-  writing = x.writing;
-  outcome = record { refused = x.outcome.refused; vote_clock = cond here c x.outcome.vote_clock; stamp = x.outcome.stamp; commit_clock = x.outcome.commit_clock };
-}
+joins_votes c here x = record x { outcome = record x.outcome { vote_clock = cond here c x.outcome.vote_clock } }
 
 -- it is committed with a stamp and a commit clock
 abbrev pub commits : ℕ → Clock → Bool → Transaction → Transaction
-commits n c here x = record {
-  kind = x.kind;
-  status = cond here Committed x.status;
-  reading = x.reading;
-  writing = x.writing;
-  outcome = record { refused = x.outcome.refused; vote_clock = x.outcome.vote_clock; stamp = cond here n x.outcome.stamp; commit_clock = cond here c x.outcome.commit_clock };
-}
+commits n c here x = record x { status = cond here Committed x.status; outcome = record x.outcome { stamp = cond here n x.outcome.stamp; commit_clock = cond here c x.outcome.commit_clock } }
 
 -- its counter is now n
 abbrev pub counts : ℕ → Bool → Node → Node
-counts n here x = record { counter = cond here n x.counter; frontier = x.frontier; seen = x.seen }
+counts n here x = record x { counter = cond here n x.counter }
 
 -- its frontier is now n
 abbrev pub advances : ℕ → Bool → Node → Node
-advances n here x = record { counter = x.counter; frontier = cond here n x.frontier; seen = x.seen }
+advances n here x = record x { frontier = cond here n x.frontier }
 
 -- its seen clock is now c
 abbrev pub sees : Clock → Bool → Node → Node
-sees c here x = record { counter = x.counter; frontier = x.frontier; seen = cond here c x.seen }
+sees c here x = record x { seen = cond here c x.seen }
 
 -- it has voted no
 abbrev pub votes_no : Bool → Participation → Participation
-votes_no here x = record { voted = cond here true x.voted; engaged = x.engaged; number = x.number; learned = x.learned; applied = x.applied }
+votes_no here x = record x { voted = cond here true x.voted }
 
 -- it has voted yes: from now on the transaction is engaged there
 abbrev pub votes_yes : Bool → Participation → Participation
-votes_yes here x = record { voted = cond here true x.voted; engaged = cond here true x.engaged; number = x.number; learned = x.learned; applied = x.applied }
+votes_yes here x = record x { voted = cond here true x.voted; engaged = cond here true x.engaged }
 
 -- the transaction's number there is now n
 abbrev pub takes_number : ℕ → Bool → Participation → Participation
-takes_number n here x = record { voted = x.voted; engaged = x.engaged; number = cond here n x.number; learned = x.learned; applied = x.applied }
+takes_number n here x = record x { number = cond here n x.number }
 
 -- it has learned the decision
 abbrev pub learns : Bool → Participation → Participation
-learns here x = record { voted = x.voted; engaged = x.engaged; number = x.number; learned = cond here true x.learned; applied = x.applied }
+learns here x = record x { learned = cond here true x.learned }
 
 -- it releases the transaction
 abbrev pub releases : Bool → Participation → Participation
-releases here x = record { voted = x.voted; engaged = cond here false x.engaged; number = x.number; learned = x.learned; applied = x.applied }
+releases here x = record x { engaged = cond here false x.engaged }
 
 -- it has applied the transaction
 abbrev pub applies : Bool → Participation → Participation
-applies here x = record { voted = x.voted; engaged = x.engaged; number = x.number; learned = x.learned; applied = cond here true x.applied }
+applies here x = record x { applied = cond here true x.applied }
 
 -- The same in the whole state.
 abbrev pub change_transaction : ℕ → (Bool → Transaction → Transaction) → State → State
-change_transaction t f s = record { transaction = λ u. f (t == u) (s.transaction u); node = s.node; participation = s.participation; chain = s.chain }
+change_transaction t f s = record s { transaction = λ u. f (t == u) (s.transaction u) }
 
 abbrev pub change_node : ℕ → (Bool → Node → Node) → State → State
-change_node p f s = record { transaction = s.transaction; node = λ q. f (p == q) (s.node q); participation = s.participation; chain = s.chain }
+change_node p f s = record s { node = λ q. f (p == q) (s.node q) }
 
 abbrev pub change_participation : ℕ → ℕ → (Bool → Participation → Participation) → State → State
-change_participation t p f s = record { transaction = s.transaction; node = s.node; participation = λ u q. f (t == u && p == q) (s.participation u q); chain = s.chain }
+change_participation t p f s = record s { participation = λ u q. f (t == u && p == q) (s.participation u q) }
 
 abbrev pub change_chains : (ℕ → ℕ → List Version) → State → State
-change_chains f s = record { transaction = s.transaction; node = s.node; participation = s.participation; chain = f }
+change_chains f s = record s { chain = f }
 
 -- ── The events ──
 

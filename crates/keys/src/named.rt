@@ -13,6 +13,8 @@ fn entry_at<T: Copy>(row: &[Option<T>], k: KeyNumber) -> Option<T>
     *row.get(usize::from(k))?
 }
 
+// `has_written` and `has_noted` differ in the row that they look at, and `records::rows::is_there` looks at any: one expression each, which a function of the row would not shorten.
+
 /// Whether a transaction has written a key.
 pub fn has_written(x: &Transaction, k: KeyNumber) -> bool
     ensures { result ≡ wrote x.now k }

@@ -17,6 +17,7 @@ fn names(x: &Transaction, k: KeyNumber) -> bool
 }
 
 /// The byte of all holders of the keys that a transaction noted or wrote.
+// The fold of `write_nodes` over other keys: a function that takes the test would need clauses on its closure, longer than both.
 pub fn polled(placement: &[u8], x: &Transaction) -> u8
     ensures { (w : World) → w.placement ≡ placement.now → result ≡ polled_byte w x.now }
 {

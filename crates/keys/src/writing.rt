@@ -23,6 +23,7 @@ pub fn writes_at(placement: &[u8], x: &Transaction, p: NodeNumber) -> bool
 }
 
 /// The byte of all nodes at which a transaction writes: who asks of all of them goes through the keys once.
+// The fold of `polled` over other keys: see there.
 pub fn write_nodes(placement: &[u8], x: &Transaction) -> u8
     ensures { (w : World) → w.placement ≡ placement.now → (q : ℕ) → bit result q ≡ is_write_node w x.now q }
 {

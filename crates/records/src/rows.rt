@@ -13,7 +13,7 @@ pub fn has_room<T: Copy>(row: &[Option<T>], k: KeyNumber) -> bool
     is_there(row, k) || how_many(row) < 8
 }
 
-/// Whether a key of a row is there.
+/// Whether a key of a row is there. One expression, as `has_written` and `has_noted` of `keys`, which name the row.
 pub fn is_there<T: Copy>(row: &[Option<T>], k: KeyNumber) -> bool
     ensures { result ≡ is_some (slice_index_or row.now k None) }
 {

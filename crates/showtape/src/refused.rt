@@ -2,7 +2,7 @@ use crate::shown::Spaced;
 use calls::call::Call;
 use tape::write::write;
 
-/// Writes some calls into a buffer of six bytes, and prints the answer with the buffer.
+/// Writes some calls into a buffer of six bytes, and prints the answer with the buffer. (`cases` has one that prints the answer alone.)
 fn show_written(rt: &HostRuntime, title: &str, calls: &[Call<'_>]) -> anyhow::Result<()> {
     let mut buffer = [9u8; 6];
     println!(rt; "{title}")?;

@@ -174,7 +174,8 @@ impl Table {
         holds(&self.placement, p, k)
     }
 
-    // Three names for one change, `change`: one name would have to ask and promise all that the three do, by cases.
+    // Three names for one change, `change`: one name would have to ask and promise all that the three do, by cases. What the closure may be, and what it leaves, is said in the
+    // same words by each: two clauses, which a definition over any closure would not shorten.
 
     /// Changes the record of a transaction in place, which raises no number.
     pub(crate) fn update<A, F: FnOnce(&mut Transaction) -> A>(

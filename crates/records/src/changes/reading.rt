@@ -25,7 +25,11 @@ pub fn note_read(x: &mut Transaction, p: NodeNumber, clock: Clock)
 
 /// Notes the writer of a version that was read, once a key and of at most eight keys. Refused, it leaves the transaction as it is.
 #[tactic(auto, using(crate::proofs::Bounded::keeps_same))]
-fn note_writer(x: &mut Transaction, k: KeyNumber, writer: TransactionNumber) -> Result<(), Refusal>
+pub fn note_writer(
+    x: &mut Transaction,
+    k: KeyNumber,
+    writer: TransactionNumber,
+) -> Result<(), Refusal>
     ensures answer { result ≡ (if can_note x.old k then Ok tt else Err TooManyKeysRead) }
     ensures value { x.new ≡ (if can_note x.old k then has_noted k writer x.old else x.old) }
     ensures kept { Keeps x.old x.new }

@@ -67,6 +67,7 @@ impl Roll {
         ensures { result ≡ (if in_range node key then slice_get (roll_meaning self.now node key).versions steps else None) }
     {
         let mut place = self.chains[chain_index(node, key)?].newest;
+        // So many steps and no items: an iterator of links would carry the same place in a closure.
         for _ in 0..steps {
             place = self.entries[place?].older;
         }
