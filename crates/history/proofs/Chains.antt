@@ -2,10 +2,10 @@
 use Rattle.std.proofs.Common.{◌≡◌, ℕ, true, false, ◌&&◌, List, ◌∷◌, sym, refl, ◌∙◌, inl, inr, arith, ◌==◌}
 use Rattle.std.proofs.lemmas.Bool.{cases_Bool, or_right, both_ways, and_left, false_from_ne_true}
 use Rattle.history.specs.Table.{Version, version, update_at, Member, Later, selected, newest}
-use Rattle.history.specs.Protocol.{Placement, Clock, Open, Offered, Committed, State, status, noted, noted_writer, wrote, value, engaged, applied, chain, conflict, written_version, Event, read_update, write, yes_write, yes_read, commit, apply, Current, put_versions, next, Accepted}
+use Rattle.history.specs.Protocol.{Placement, Clock, Open, Offered, Committed, State, status, noted, noted_writer, wrote, value, engaged, applied, chain, conflict, written_version, Event, read_update, write, yes_write, yes_read, commit, apply, Current, put_versions, next, Accepted, Status, becomes, change_transaction}
 use Rattle.history.specs.History.{decisions, applied_at}
 use Rattle.history.proofs.Basics.{update_at₂, other₂, drop, differ, later_first, later_second, selected_same, selected_more, or_second}
-use Rattle.history.proofs.Locks.{Locks, all_engaged}
+use Rattle.history.proofs.Locks.{Locks, all_engaged, Moves}
 use Rattle.history.proofs.Clocks.{Decisions}
 
 module _ (holds : Placement) (modulus : ℕ) where
@@ -151,6 +151,10 @@ module _ (holds : Placement) (modulus : ℕ) where
     history_applied = λ u q m. grind arith;
     applied_history = λ u q e. grind arith;
   }
+
+  chains_move : (h : List Event) (s : State) (t : ℕ) (y : Status) → Moves holds modulus s t y → Chains h s →
+      Chains h (change_transaction t (becomes y) s)
+  chains_move h s t y m i = grind arith
 
   pub chains : (h : List Event) (s : State) (e : Event) → Locks holds modulus s → Decisions holds modulus h s → Chains h s →
       Accepted holds modulus s e → Chains (e ∷ h) (next holds s e)

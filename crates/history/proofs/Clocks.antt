@@ -2,10 +2,10 @@
 use Rattle.std.proofs.Common.{◌≡◌, ℕ, ◌<◌, ◌≤◌, Bool, true, false, List, ◌∷◌, sym, refl, ap, ◌∙◌, inl, inr, le_trans, arith}
 use Rattle.std.proofs.lemmas.Bool.{cases_eq, both_ways}
 use Rattle.history.specs.Table.{Version, update_at, Member, Later}
-use Rattle.history.specs.Protocol.{Placement, Clock, join, Open, Offered, Committed, State, status, clock, read_at, noted, wrote, vote_clock, stamp, commit_clock, frontier, seen, engaged, applied, conflict, Event, read_update, write, yes_write, yes_read, commit, Joined, WriteNode, MayRead, MayVote, next, Accepted}
+use Rattle.history.specs.Protocol.{Placement, Clock, join, Open, Offered, Committed, State, status, clock, read_at, noted, wrote, vote_clock, stamp, commit_clock, frontier, seen, engaged, applied, conflict, Event, read_update, write, yes_write, yes_read, commit, Joined, WriteNode, MayRead, MayVote, next, Accepted, Status, becomes, change_transaction}
 use Rattle.history.specs.History.{decisions}
 use Rattle.history.proofs.Basics.{update_at₂, same, other, other₂, slot, hit, is_begun, frozen, differ, conflict_left, conflict_right, later_first, later_second}
-use Rattle.history.proofs.Locks.{Locks, all_engaged}
+use Rattle.history.proofs.Locks.{Locks, all_engaged, Moves}
 use Rattle.history.proofs.Numbers.{commit_above, Numbers}
 
 -- ── Decisions ──
@@ -20,6 +20,10 @@ module _ (holds : Placement) (modulus : ℕ) where
     -- Transactions are numbered from 1, so the writer 0 of a first version is nobody.
     begun_positive : (t : ℕ) → is_begun (status s t) ≡ true → 0 < t;
   }
+
+  decisions_move : (h : List Event) (s : State) (t : ℕ) (y : Status) → Moves holds modulus s t y → 0 < t → Decisions h s →
+      Decisions h (change_transaction t (becomes y) s)
+  decisions_move h s t y m pos i = grind arith
 
   decisions_commit : (h : List Event) (s : State) (t n : ℕ) (c : Clock) → Decisions h s → Accepted holds modulus s (commit t n c) →
       Decisions (commit t n c ∷ h) (next holds s (commit t n c))
@@ -217,6 +221,10 @@ module _ (holds : Placement) (modulus : ℕ) where
     engaged_votes = commit_engaged_votes h s t n c l i ok;
     conflict_ordered = commit_conflict_ordered h s t n c l dd i ok;
   }
+
+  clocks_move : (h : List Event) (s : State) (t : ℕ) (y : Status) → Moves holds modulus s t y → Clocks h s →
+      Clocks h (change_transaction t (becomes y) s)
+  clocks_move h s t y m i = grind arith
 
   pub clocks : (h : List Event) (s : State) (e : Event) → Locks holds modulus s → Numbers holds modulus s → Decisions holds modulus h s → Clocks h s →
       Accepted holds modulus s e → Clocks (e ∷ h) (next holds s e)

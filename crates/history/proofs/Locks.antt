@@ -2,7 +2,7 @@
 use Rattle.std.proofs.Common.{◌≡◌, ℕ, ◌≤◌, true, false, ◌||◌, sym, ◌∙◌, inl, inr, arith}
 use Rattle.std.proofs.lemmas.Bool.{cases_eq, both_ways}
 use Rattle.history.specs.Table.{update_at}
-use Rattle.history.specs.Protocol.{Placement, Clock, join, Status, Offered, Committed, Aborted, State, fresh, status, wrote, refused, commit_clock, seen, voted, engaged, learned, applied, touched, conflict, Event, yes_write, yes_read, commit, cancel, learn_read, apply, MayVote, next, Accepted}
+use Rattle.history.specs.Protocol.{Placement, Clock, join, Kind, Status, Open, Offered, Committed, Aborted, Finished, State, fresh, status, wrote, refused, commit_clock, seen, voted, engaged, learned, applied, touched, conflict, Event, begin, offer, yes_write, yes_read, commit, abort, cancel, learn_read, apply, finish, MayVote, next, Accepted}
 use Rattle.history.proofs.Basics.{update_at₂, other, slot, frozen, is_committed, over}
 
 module _ (holds : Placement) (modulus : ℕ) where
@@ -120,5 +120,17 @@ module _ (holds : Placement) (modulus : ℕ) where
     offered_anew : y ≡ Offered → (p : ℕ) → engaged s t p ≡ true → ⊥;
   }
 
+  pub begin_moves : (s : State) (t : ℕ) (a : Kind) → Accepted holds modulus s (begin t a) → Moves s t Open
+  begin_moves s t a ok = grind arith
+
+  pub offer_moves : (s : State) (t : ℕ) → Locks s → Accepted holds modulus s (offer t) → Moves s t Offered
+  offer_moves s t l ok = grind arith
+
+  pub abort_moves : (s : State) (t : ℕ) → Accepted holds modulus s (abort t) → Moves s t Aborted
+  abort_moves s t ok = grind arith
+
   pub cancel_moves : (s : State) (t : ℕ) → Accepted holds modulus s (cancel t) → Moves s t Aborted
   cancel_moves s t ok = grind arith
+
+  pub finish_moves : (s : State) (t : ℕ) → Accepted holds modulus s (finish t) → Moves s t Finished
+  finish_moves s t ok = grind arith

@@ -2,9 +2,9 @@
 use Rattle.std.proofs.Common.{◌≡◌, ℕ, ◌≤◌, max, true, false, ◌⊎◌, sym, ap, ◌∙◌, inl, inr, arith, ◌==◌}
 use Rattle.std.proofs.lemmas.Bool.{cases_eq, cases_lt, both_ways, cond_both}
 use Rattle.history.specs.Table.{Version, update_at}
-use Rattle.history.specs.Protocol.{Placement, Clock, join, Offered, Committed, State, status, clock, read_at, wrote, vote_clock, stamp, commit_clock, seen, base_clock, sees, change_node, Event, read_search, read_update, yes_write, yes_read, commit, learn_read, apply, Joined, WriteNode, MayRead, next, Accepted}
+use Rattle.history.specs.Protocol.{Placement, Clock, join, Offered, Committed, State, status, clock, read_at, wrote, vote_clock, stamp, commit_clock, seen, base_clock, sees, change_node, Event, read_search, read_update, yes_write, yes_read, commit, learn_read, apply, Joined, WriteNode, MayRead, next, Accepted, Status, becomes, change_transaction}
 use Rattle.history.proofs.Basics.{update_at₂, same, other₂, slot}
-use Rattle.history.proofs.Locks.{Locks}
+use Rattle.history.proofs.Locks.{Locks, Moves}
 use Rattle.history.proofs.Numbers.{commit_above}
 
 each_clock : (Q : Clock → Type 0) (f : ℕ → Clock) (t : ℕ) (c : Clock) → ((x : ℕ) → Q (f x)) → Q c → (x : ℕ) → Q (update_at f t c x)
@@ -57,6 +57,9 @@ module _ (holds : Placement) (modulus : ℕ) where
   stamped_kept : (s r : State) (x : Clock) → Keeps s r → Stamped s x → Stamped r x
   stamped_kept s r x f g q = grind arith
 
+  move_keeps : (s : State) (t : ℕ) (y : Status) → Moves holds modulus s t y → Keeps s (change_transaction t (becomes y) s)
+  move_keeps s t y m u c = grind arith
+
   commit_keeps : (s : State) (t n : ℕ) (c : Clock) → status s t ≡ Offered → Keeps s (next holds s (commit t n c))
   commit_keeps s t n c o u e = grind arith
 
@@ -79,6 +82,9 @@ module _ (holds : Placement) (modulus : ℕ) where
     where
       at_last : x ≡ t → update_at₂ (read_at s) t p true x p ≡ true
       at_last e = grind arith
+
+  stamps_move : (s : State) (t : ℕ) (y : Status) → Moves holds modulus s t y → Stamps s → Stamps (change_transaction t (becomes y) s)
+  stamps_move s t y m i = grind arith
 
   stamps_read : (s : State) (t k p : ℕ) (a : Version) (c : Clock) → Stamps s → MayRead holds s t k p a c → Stamps (next holds s (read_search t k p a c))
   stamps_read s t k p a c i ok = record {
