@@ -12,7 +12,7 @@ or_false : (a b : Bool) → a ≡ false → b ≡ false → (a || b) ≡ false
 or_false a b p q = rw (p, q) refl
 
 -- A loop that stops at the first number that passes a test.
-none_below : (n : ℕ) (test : ℕ → Bool) → ((k : ℕ) → k < n → test k ≡ false) → some_below n test ≡ false
+pub none_below : (n : ℕ) (test : ℕ → Bool) → ((k : ℕ) → k < n → test k ≡ false) → some_below n test ≡ false
 none_below zero test none = refl
 none_below (suc n) test none = or_false (test n) (some_below n test) (none n (omega arith)) (none_below n test (λ k l. none k (omega arith)))
 
