@@ -7,6 +7,7 @@ mod report;
 mod scenes;
 mod story;
 
+use anyhow::anyhow;
 use catalogue::catalogue::Catalogue;
 use folders::PLACEMENT;
 use report::Report;
@@ -18,7 +19,9 @@ use story::Story;
 
 /// Tells the story over a new store.
 fn tell<S: VersionStore>(rt: &HostRuntime) -> anyhow::Result<()> {
-    let catalogue = Catalogue::<S>::make(rt.alloc(), 2, 2, &PLACEMENT)?;
+    let catalogue = Catalogue::<S>::make(rt.alloc(), 2, 2, &PLACEMENT).map_err(|_| anyhow!(
+        "no catalogue was made"
+    ))?;
     let mut story = Story {
         report: Report::new(rt),
         catalogue,

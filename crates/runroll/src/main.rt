@@ -7,7 +7,9 @@ use runtape::listing_from;
 // The other program's `main` is this one over its own store: a program has a `main`, and what both do is `listing_from`.
 fn main(rt: HostRuntime) -> anyhow::Result<()> {
     let listing = listing_from::<Roll, _>(rt.alloc(), rt.stdin())?;
-    // One write of the whole text: a printing macro would go through it byte by byte.
-    rt.write_all(listing.as_bytes())?;
+    // A printing macro writes in such parts too, but goes through them byte by byte; a socket that keeps the bounds of messages takes no text of any length at once.
+    for part in listing.as_bytes().chunks(1024) {
+        rt.write_all(part)?;
+    }
     Ok(())
 }
