@@ -1,5 +1,5 @@
 -- A chain that tests numbers or bytes, as the definitions of the rules test them.
-use Rattle.std.proofs.Common.{◌≡◌, ℕ, zero, suc, ◌+◌, ◌<◌, Bool, true, false, ◌^◌, ◌||◌, ◌&&◌, List, [], ◌∷◌, ◌++◌, cond, fold, filter, Some, None, Option, nat_lt, refl, sym, ap, ◌∙◌, arith, length}
+use Rattle.std.proofs.Common.{◌≡◌, ℕ, zero, suc, ◌+◌, ◌<◌, Bool, true, false, ◌^◌, ◌||◌, ◌&&◌, List, [], ◌∷◌, ◌++◌, cond, fold, filter, Some, None, Option, nat_lt, ltb, refl, sym, ap, ◌∙◌, arith, length}
 use Rattle.std.specs.Fn.{Called, CalledAt}
 use Rattle.std.specs.Iterator.{Yields, YieldsThen}
 use Rattle.std.specs.Iterator.Adapters.{filter_callee, filter_source, filter_steps}
@@ -21,6 +21,8 @@ use lib.Bits.{bit_or}
 use Rattle.rules.specs.World.{bit, some_below}
 use Rattle.rules.specs.Steps.{all_placed}
 use Rattle.rules.proofs.Writes.{bit-bit_or}
+use Rattle.rules.proofs.States.{some_has, some_from}
+use Rattle.std.proofs.lemmas.Bool.{agree_below_at, and_parts, and_from}
 
 -- Counting one further.
 pub counting_more : (a n : ℕ) → range_with_len a (suc n) ≡ range_with_len a n ++ (a + n) ∷ []
@@ -92,3 +94,29 @@ bit-fold test byte_at p byte (k ∷ ks) = go (test k) (λ b. bit-fold test byte_
     go : (kept : Bool) → ((b : ℕ) → bit (fold (λ c j. cond (test j) (bit_or c (byte_at j)) c) b ks) p ≡ (bit b p || rest)) → bit (fold (λ c j. cond (test j) (bit_or c (byte_at j)) c) (cond kept (bit_or byte (byte_at k)) byte) ks) p ≡ (bit byte p || ((kept && bit (byte_at k) p) || rest))
     go true more = more (bit_or byte (byte_at k)) ∙ ap (λ (b : Bool). b || rest) (bit-bit_or byte (byte_at k) p) ∙ or_apart (bit byte p) (bit (byte_at k) p) rest
     go false more = more byte
+
+-- A byte that is not 0 has one of its eight bits.
+pub some_bit : (byte : ℕ) → byte < 256 → ltb 0 byte ≡ some_below 8 (bit byte)
+some_bit byte small = agree_below_at (λ (b : ℕ). ltb 0 b) (λ (b : ℕ). some_below 8 (bit b)) 256 byte refl small
+
+same_answer : (a b : Bool) → (a ≡ true → b ≡ true) → (b ≡ true → a ≡ true) → a ≡ b
+same_answer true b there back = sym (there refl)
+same_answer false true there back = back refl
+same_answer false false there back = refl
+
+-- Of two searches, one in the other, either can be the outer one.
+pub some_of_some : (n m : ℕ) (test : ℕ → Bool) (within : ℕ → ℕ → Bool) → some_below n (λ k. test k && some_below m (within k)) ≡ some_below m (λ p. some_below n (λ k. test k && within k p))
+some_of_some n m test within =
+    same_answer (some_below n (λ k. test k && some_below m (within k))) (some_below m (λ p. some_below n (λ k. test k && within k p)))
+    (λ some.
+    let k = some_has n (λ k. test k && some_below m (within k)) some in
+    let both = and_parts (test k.0) (some_below m (within k.0)) k.2 in
+    let p = some_has m (within k.0) both.1 in
+    some_from m (λ p. some_below n (λ k. test k && within k p)) p.0 p.1
+    (some_from n (λ j. test j && within j p.0) k.0 k.1 (and_from (test k.0) (within k.0 p.0) both.0 p.2)))
+    (λ some.
+    let p = some_has m (λ p. some_below n (λ k. test k && within k p)) some in
+    let k = some_has n (λ j. test j && within j p.0) p.2 in
+    let both = and_parts (test k.0) (within k.0 p.0) k.2 in
+    some_from n (λ k. test k && some_below m (within k)) k.0 k.1
+    (and_from (test k.0) (some_below m (within k.0)) both.0 (some_from m (within k.0) p.0 p.1 both.1)))

@@ -1,7 +1,7 @@
 //! A placement has for each key a byte that says which nodes hold it: bit h stands for node h.
 
 ghost use Rattle.std.specs.Prelude.{◌≡◌, ◌^◌, ◌<◌, ◌≤◌, true, ◌&&◌, length, nat_lt, slice_index};
-ghost use Rattle.rules.specs.World.{bit};
+ghost use Rattle.rules.specs.World.{bit, some_below};
 ghost use Rattle.rules.specs.Steps.{all_placed, can_make};
 
 use calls::sizes::{KeyNumber, NodeNumber};
@@ -28,6 +28,13 @@ pub fn holds(placement: &[u8], p: NodeNumber, k: KeyNumber) -> bool
     ensures node { result ≡ true → p < 8 }
 {
     names(holders(placement, k), p)
+}
+
+/// Whether some node holds a key.
+pub(crate) fn is_held(placement: &[u8], k: KeyNumber) -> bool
+    ensures { result ≡ some_below 8 (bit (slice_index placement.now k)) }
+{
+    holders(placement, k) > 0
 }
 
 /// Whether a byte names a holder, and no node past the last.

@@ -21,7 +21,11 @@ fn names(x: &Transaction, k: KeyNumber) -> bool
 pub fn polled(placement: &[u8], x: &Transaction) -> u8
     ensures { (w : World) → w.placement ≡ placement.now → result ≡ polled_byte w x.now }
 {
-    all_keys()
-        .filter(|k| names(x, *k))
-        .fold(0, |byte, k| byte | holders(placement, k))
+    all_keys().fold(0, |byte, k| {
+        if names(x, k) {
+            byte | holders(placement, k)
+        } else {
+            byte
+        }
+    })
 }

@@ -1,10 +1,10 @@
 //! Whether a transaction writes at a node.
 
 ghost use Rattle.std.specs.Prelude.{◌≡◌, ℕ, ◌&&◌, slice_index};
-ghost use Rattle.rules.specs.World.{World, bit, wrote, is_write_node};
+ghost use Rattle.rules.specs.World.{World, bit, some_below, wrote, is_write_node};
 
 use crate::named::has_written;
-use crate::placing::{all_keys, holders, holds};
+use crate::placing::{all_keys, holders, holds, is_held};
 use calls::sizes::{KeyNumber, NodeNumber};
 use rules::records::Transaction;
 
@@ -22,12 +22,23 @@ pub fn writes_at(placement: &[u8], x: &Transaction, p: NodeNumber) -> bool
     all_keys().any(|k| writes_key(placement, x, p, k))
 }
 
+/// Whether a transaction writes at some node. It stops at the first such key.
+pub fn has_write_node(placement: &[u8], x: &Transaction) -> bool
+    ensures { (w : World) → w.placement ≡ placement.now → result ≡ some_below 8 (is_write_node w x.now) }
+{
+    all_keys().any(|k| has_written(x, k) && is_held(placement, k))
+}
+
 /// The byte of all nodes at which a transaction writes: who asks of all of them goes through the keys once.
 // The fold of `polled` over other keys: see there.
 pub fn write_nodes(placement: &[u8], x: &Transaction) -> u8
     ensures { (w : World) → w.placement ≡ placement.now → (q : ℕ) → bit result q ≡ is_write_node w x.now q }
 {
-    all_keys()
-        .filter(|k| has_written(x, *k))
-        .fold(0, |byte, k| byte | holders(placement, k))
+    all_keys().fold(0, |byte, k| {
+        if has_written(x, k) {
+            byte | holders(placement, k)
+        } else {
+            byte
+        }
+    })
 }

@@ -5,25 +5,17 @@
 
 ghost use Rattle.std.specs.Prelude.{◌≡◌, ℕ, ◌+◌, ◌^◌, ◌<◌, ◌≤◌, if◌then◌else◌, Some, nat_lt};
 ghost use Rattle.clock.specs.Numbers.{if_fits};
-ghost use Rattle.rules.specs.World.{World, bit, some_below, is_write_node};
+ghost use Rattle.rules.specs.World.{World, bit};
 ghost use Rattle.rules.specs.Changes.{is_committed};
 ghost use Rattle.rules.specs.Deciding.{base_clock, stamp_of, stamped};
 ghost use Rattle.records.specs.Bounds.{ClockWithin};
 
 use calls::sizes::{NodeNumber, Stamp, TransactionNumber};
 use clock::{Clock, join, stamp};
-use keys::writing::write_nodes;
+use keys::writing::{has_write_node, write_nodes};
 use rules::nodes::names;
 use rules::records::{State, Transaction};
 use std::array::from_fn;
-
-/// Whether an update writes at some node.
-fn has_write_node(placement: &[u8], x: &Transaction) -> bool
-    ensures { (w : World) → w.placement ≡ placement.now → result ≡ some_below 8 (is_write_node w x.now) }
-{
-    let nodes = write_nodes(placement, x);
-    (0..8).any(|p| names(nodes, p))
-}
 
 /// The base of an update: the join of its clock and of the clocks that the votes carried.
 fn base_clock(x: &Transaction) -> Clock
